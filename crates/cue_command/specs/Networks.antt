@@ -1,9 +1,10 @@
 -- What the words over a network come to.
-use Rattle.std.specs.Prelude.{◌≡◌, ◌⊎◌, ℕ, List, Option, Result, Ok, Err}
+use Rattle.std.specs.Prelude.{◌≡◌, ◌⊎◌, ℕ, List, Result, Ok, Err}
 use Rattle.cue_net.specs.declared.halt.Halt.{Halt}
 use Rattle.cue_net.specs.declared.halt.Halt.TheVariants as halts
 use Rattle.cue_net.specs.Doors.{ConversesOver, IsLooping, IsPushing, IsServingAt, ServesOver}
 use Rattle.cue_net.specs.Doors.{TalksOver}
+use Rattle.cue_wire.specs.Connections.{Moment}
 use Rattle.cue_net.specs.Halts.{IsDeviceOrMemory}
 use Rattle.cue_net.specs.Printed.{IsServedExport}
 use Rattle.cue_net.specs.Sockets.{IsTalkAnswer}
@@ -52,17 +53,12 @@ pub record Reach : Type 1 where
 
 -- this is what they came to, by what a network and its connections tell
 abbrev pub reach : {Do I O : Type 0} → (ℕ → Do → Type 0) → (Do → Do → I → O → Type 0)
-    → (ℕ → I → O → Type 0) → (I → O → I → O → Type 0) → Type 0
-    → (I → Option (List ℕ)) → (I → Option (List ℕ)) → (O → Option (List ℕ))
-    → (I → ℕ) → (O → ℕ) → (I → ℕ) → (O → ℕ) → Reach
-reach opens lets_in reaches joins fails given to_come taken reads writes failed_reads
-    failed_writes = record {
-      Serves = λ port count result. IsServingAt (opens port) lets_in (ServesOver given to_come taken
-          reads writes failed_reads failed_writes) fails count result × IsServed result;
-      Pushes = λ port requests result. IsPushing (reaches port) (TalksOver given to_come taken
-          reads writes failed_reads failed_writes requests result) fails requests result
-          × IsTalkAnswer requests result;
-      Loops = λ requests result. IsLooping joins (ConversesOver given to_come taken
-          reads writes failed_reads failed_writes requests result) fails requests result
-          × IsTalkAnswer requests result;
-    }
+    → (ℕ → I → O → Type 0) → (I → O → I → O → Type 0) → Type 0 → (I → O → Moment) → Reach
+reach opens lets_in reaches joins fails at = record {
+  Serves = λ port count result. IsServingAt (opens port) lets_in (ServesOver at) fails count result
+      × IsServed result;
+  Pushes = λ port requests result. IsPushing (reaches port) (TalksOver at requests result) fails
+      requests result × IsTalkAnswer requests result;
+  Loops = λ requests result. IsLooping joins (ConversesOver at requests result) fails requests
+      result × IsTalkAnswer requests result;
+}

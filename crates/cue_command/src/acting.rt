@@ -1,4 +1,5 @@
 ghost use Rattle.std.specs.Prelude.{◌≡◌, ◌⊎◌, ◌++◌, IfOk, IfErr, List, ℕ, codes, map, string_bytes};
+ghost use Rattle.cue_wire.specs.Connections.{moment};
 ghost use Rattle.cue_command.specs.Faults.{IsComplaint, IsMemory, IsRefused, IsTold, stop_text};
 ghost use Rattle.cue_command.specs.Networks.{reach};
 ghost use Rattle.cue_command.specs.Runs.{around, IsAnswerTo, IsFaultOfWords, IsRun, IsStopTo};
@@ -51,8 +52,8 @@ where
     H: AllocGlobal + Shelf + Network,
     ensures { IsRun (map string_bytes words.now)
         (around H.held H.makes (reach (H.opens rt.old) (H.lets_in rt.old) (H.reaches rt.old)
-        (H.joins rt.old) (H.fails rt.old) H.Input.given H.Input.to_come H.Output.taken
-        H.Input.called H.Output.called H.Input.failed H.Output.failed)
+        (H.joins rt.old) (H.fails rt.old) (moment H.Input.given H.Input.to_come H.Output.taken
+        H.Input.called H.Output.called H.Input.failed H.Output.failed))
         rt.old rt.new (R.remaining input.old))
         (passed W.contents out.old out.new) (passed F.contents faults.old faults.new) result }
 {
@@ -74,8 +75,8 @@ where
     H: AllocGlobal + Env + Shelf + Network,
     ensures { ((words : List (List ℕ)) × IsRun words
         (around H.held H.makes (reach (H.opens rt.old) (H.lets_in rt.old) (H.reaches rt.old)
-        (H.joins rt.old) (H.fails rt.old) H.Input.given H.Input.to_come H.Output.taken
-        H.Input.called H.Output.called H.Input.failed H.Output.failed)
+        (H.joins rt.old) (H.fails rt.old) (moment H.Input.given H.Input.to_come H.Output.taken
+        H.Input.called H.Output.called H.Input.failed H.Output.failed))
         rt.old rt.new (R.remaining input.old))
         (passed W.contents out.old out.new) (passed F.contents faults.old faults.new) result)
         ⊎ ((fault : Fault) × ((fault ≡ Fault.Usage) ⊎ IsMemory fault)
@@ -104,13 +105,13 @@ where
     H: AllocGlobal + Shelf + Network,
     ensures reply { IfOk result (IsReplyToWords (map string_bytes words.now)
         (around H.held H.makes (reach (H.opens rt.old) (H.lets_in rt.old) (H.reaches rt.old)
-        (H.joins rt.old) (H.fails rt.old) H.Input.given H.Input.to_come H.Output.taken
-        H.Input.called H.Output.called H.Input.failed H.Output.failed)
+        (H.joins rt.old) (H.fails rt.old) (moment H.Input.given H.Input.to_come H.Output.taken
+        H.Input.called H.Output.called H.Input.failed H.Output.failed))
         rt.old rt.new (R.remaining input.old))) }
     ensures fault { IfErr result (IsFaultOfWords (map string_bytes words.now)
         (around H.held H.makes (reach (H.opens rt.old) (H.lets_in rt.old) (H.reaches rt.old)
-        (H.joins rt.old) (H.fails rt.old) H.Input.given H.Input.to_come H.Output.taken
-        H.Input.called H.Output.called H.Input.failed H.Output.failed)
+        (H.joins rt.old) (H.fails rt.old) (moment H.Input.given H.Input.to_come H.Output.taken
+        H.Input.called H.Output.called H.Input.failed H.Output.failed))
         rt.old rt.new (R.remaining input.old))) }
 {
     let command = command_of(rt.alloc(), words)?;
@@ -148,13 +149,13 @@ where
     H: AllocGlobal + Shelf + Network,
     ensures reply { IfOk result (IsReplyTo (asked_by command.now)
         (around H.held H.makes (reach (H.opens rt.old) (H.lets_in rt.old) (H.reaches rt.old)
-        (H.joins rt.old) (H.fails rt.old) H.Input.given H.Input.to_come H.Output.taken
-        H.Input.called H.Output.called H.Input.failed H.Output.failed)
+        (H.joins rt.old) (H.fails rt.old) (moment H.Input.given H.Input.to_come H.Output.taken
+        H.Input.called H.Output.called H.Input.failed H.Output.failed))
         rt.old rt.new (R.remaining input.old))) }
     ensures stop { IfErr result (IsStopTo (asked_by command.now)
         (around H.held H.makes (reach (H.opens rt.old) (H.lets_in rt.old) (H.reaches rt.old)
-        (H.joins rt.old) (H.fails rt.old) H.Input.given H.Input.to_come H.Output.taken
-        H.Input.called H.Output.called H.Input.failed H.Output.failed)
+        (H.joins rt.old) (H.fails rt.old) (moment H.Input.given H.Input.to_come H.Output.taken
+        H.Input.called H.Output.called H.Input.failed H.Output.failed))
         rt.old rt.new (R.remaining input.old))) }
 {
     match command {
@@ -177,13 +178,13 @@ fn merged<H: AllocGlobal + Shelf + Network, R: Read>(
 ) -> Result<Answer, Stop>
     ensures answer { IfOk result (IsAnswerTo (merging out.now (texts files.now))
         (around H.held H.makes (reach (H.opens rt.old) (H.lets_in rt.old) (H.reaches rt.old)
-        (H.joins rt.old) (H.fails rt.old) H.Input.given H.Input.to_come H.Output.taken
-        H.Input.called H.Output.called H.Input.failed H.Output.failed)
+        (H.joins rt.old) (H.fails rt.old) (moment H.Input.given H.Input.to_come H.Output.taken
+        H.Input.called H.Output.called H.Input.failed H.Output.failed))
         rt.old rt.new (R.remaining input.old))) }
     ensures stop { IfErr result (IsStopTo (merging out.now (texts files.now))
         (around H.held H.makes (reach (H.opens rt.old) (H.lets_in rt.old) (H.reaches rt.old)
-        (H.joins rt.old) (H.fails rt.old) H.Input.given H.Input.to_come H.Output.taken
-        H.Input.called H.Output.called H.Input.failed H.Output.failed)
+        (H.joins rt.old) (H.fails rt.old) (moment H.Input.given H.Input.to_come H.Output.taken
+        H.Input.called H.Output.called H.Input.failed H.Output.failed))
         rt.old rt.new (R.remaining input.old))) }
 {
     match merge_into(rt, out, files, input) {

@@ -1,5 +1,6 @@
 ghost use Rattle.std.specs.Prelude.{◌≡◌, ℕ, List, Option, IfOk, IfErr, Ok, Err};
 ghost use Rattle.cue_program.specs.Files.{texts};
+ghost use Rattle.cue_wire.specs.Connections.{moment};
 ghost use Rattle.cue_command.specs.Networks.{IsEndedBy, reach, stop_by};
 ghost use Rattle.cue_command.specs.Runs.{around, IsAnswerTo, IsStopTo};
 ghost use Rattle.cue_command.specs.Words.{looping, pushing, serving};
@@ -15,13 +16,13 @@ where
     H: AllocGlobal + Shelf + Network,
     ensures answer { (known : Option (List ℕ)) → IfOk result (IsAnswerTo (serving port count)
         (around H.held H.makes (reach (H.opens rt.now) (H.lets_in rt.now) (H.reaches rt.now)
-        (H.joins rt.now) (H.fails rt.now) H.Input.given H.Input.to_come H.Output.taken
-        H.Input.called H.Output.called H.Input.failed H.Output.failed)
+        (H.joins rt.now) (H.fails rt.now) (moment H.Input.given H.Input.to_come H.Output.taken
+        H.Input.called H.Output.called H.Input.failed H.Output.failed))
         rt.now rt.now known)) }
     ensures stop { (known : Option (List ℕ)) → IfErr result (IsStopTo (serving port count)
         (around H.held H.makes (reach (H.opens rt.now) (H.lets_in rt.now) (H.reaches rt.now)
-        (H.joins rt.now) (H.fails rt.now) H.Input.given H.Input.to_come H.Output.taken
-        H.Input.called H.Output.called H.Input.failed H.Output.failed)
+        (H.joins rt.now) (H.fails rt.now) (moment H.Input.given H.Input.to_come H.Output.taken
+        H.Input.called H.Output.called H.Input.failed H.Output.failed))
         rt.now rt.now known)) }
 {
     ended(serve_for(rt, port, count))
@@ -33,13 +34,13 @@ where
     H: AllocGlobal + Shelf + Network,
     ensures answer { IfOk result (IsAnswerTo (pushing port (texts files.now))
         (around H.held H.makes (reach (H.opens rt.now) (H.lets_in rt.now) (H.reaches rt.now)
-        (H.joins rt.now) (H.fails rt.now) H.Input.given H.Input.to_come H.Output.taken
-        H.Input.called H.Output.called H.Input.failed H.Output.failed)
+        (H.joins rt.now) (H.fails rt.now) (moment H.Input.given H.Input.to_come H.Output.taken
+        H.Input.called H.Output.called H.Input.failed H.Output.failed))
         rt.now rt.now (R.remaining input.old))) }
     ensures stop { IfErr result (IsStopTo (pushing port (texts files.now))
         (around H.held H.makes (reach (H.opens rt.now) (H.lets_in rt.now) (H.reaches rt.now)
-        (H.joins rt.now) (H.fails rt.now) H.Input.given H.Input.to_come H.Output.taken
-        H.Input.called H.Output.called H.Input.failed H.Output.failed)
+        (H.joins rt.now) (H.fails rt.now) (moment H.Input.given H.Input.to_come H.Output.taken
+        H.Input.called H.Output.called H.Input.failed H.Output.failed))
         rt.now rt.now (R.remaining input.old))) }
 {
     let requests = requests_for(rt, files, input)?;
@@ -53,13 +54,13 @@ where
     H: AllocGlobal + Shelf + Network,
     ensures answer { IfOk result (IsAnswerTo (looping (texts files.now))
         (around H.held H.makes (reach (H.opens rt.now) (H.lets_in rt.now) (H.reaches rt.now)
-        (H.joins rt.now) (H.fails rt.now) H.Input.given H.Input.to_come H.Output.taken
-        H.Input.called H.Output.called H.Input.failed H.Output.failed)
+        (H.joins rt.now) (H.fails rt.now) (moment H.Input.given H.Input.to_come H.Output.taken
+        H.Input.called H.Output.called H.Input.failed H.Output.failed))
         rt.now rt.now (R.remaining input.old))) }
     ensures stop { IfErr result (IsStopTo (looping (texts files.now))
         (around H.held H.makes (reach (H.opens rt.now) (H.lets_in rt.now) (H.reaches rt.now)
-        (H.joins rt.now) (H.fails rt.now) H.Input.given H.Input.to_come H.Output.taken
-        H.Input.called H.Output.called H.Input.failed H.Output.failed)
+        (H.joins rt.now) (H.fails rt.now) (moment H.Input.given H.Input.to_come H.Output.taken
+        H.Input.called H.Output.called H.Input.failed H.Output.failed))
         rt.now rt.now (R.remaining input.old))) }
 {
     let requests = requests_for(rt, files, input)?;

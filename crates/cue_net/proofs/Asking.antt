@@ -6,23 +6,23 @@ use Rattle.cue_wire.specs.Clients.{Exchange}
 use Rattle.cue_net.specs.declared.halt.Halt.{Halt}
 use Rattle.cue_net.specs.Halts.{IsDevice, IsMemory}
 use Rattle.cue_net.specs.Inner.Turns.{IsWriteHalt, Moves}
-use Rattle.cue_net.specs.Talks.{Talk, IsTalk}
-use Rattle.cue_net.specs.Inner.Hearing.{Hears, Lacks, IsHearHalt, HearsAt, Heard, AllSent, Asked}
+use Rattle.cue_net.specs.Talks.{Talk}
+use Rattle.cue_net.specs.Inner.Hearing.{Hears, Lacks, IsHearHalt, HearsAt, Heard, AllSent, Asked, Carries}
 use Rattle.cue_wire.proofs.Connections.{handed_on}
 use Rattle.cue_net.proofs.Hearing.{hears_nothing, hears_more, balks_later}
 
 abbrev pub no_talk : Talk
 no_talk = record { sent = []; heard = [] }
 
-pub talks_nothing : (given to_come taken : Option (List ℕ)) → IsTalk no_talk given given to_come to_come taken taken
+pub talks_nothing : (given to_come taken : Option (List ℕ)) → Carries no_talk given given to_come to_come taken taken
 talks_nothing given to_come taken = record { gave = Appends-nil given; took = Consumes-nil to_come; wrote = Appends-nil taken }
 
 abbrev pub joined : Talk → Talk → Talk
 joined one two = record { sent = one.sent ++ two.sent; heard = one.heard ++ two.heard }
 
 pub talks_more : (one two : Talk) (given given' given'' to_come to_come' to_come'' taken taken' taken'' : Option (List ℕ))
-    → IsTalk one given given' to_come to_come' taken taken' → IsTalk two given' given'' to_come' to_come'' taken' taken''
-    → IsTalk (joined one two) given given'' to_come to_come'' taken taken''
+    → Carries one given given' to_come to_come' taken taken' → Carries two given' given'' to_come' to_come'' taken' taken''
+    → Carries (joined one two) given given'' to_come to_come'' taken taken''
 talks_more one two given given' given'' to_come to_come' to_come'' taken taken' taken'' first second = record {
   gave = Appends-trans given given' given'' one.heard two.heard first.gave second.gave;
   took = Consumes-trans to_come to_come' to_come'' one.heard two.heard first.took second.took;

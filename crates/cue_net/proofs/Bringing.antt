@@ -7,8 +7,8 @@ use Rattle.cue_wire.specs.Clients.{Exchange}
 use Rattle.cue_net.specs.declared.halt.Halt.{Halt}
 use Rattle.cue_net.specs.Halts.{IsDevice}
 use Rattle.cue_net.specs.Inner.Turns.{IsWriteHalt}
-use Rattle.cue_net.specs.Talks.{Talk, IsTalk}
-use Rattle.cue_net.specs.Inner.Hearing.{Hears, Balks}
+use Rattle.cue_net.specs.Talks.{Talk}
+use Rattle.cue_net.specs.Inner.Hearing.{Hears, Balks, Carries}
 use Rattle.cue_net.specs.Inner.Looping.{IsCarryHalt, Brought}
 use Rattle.cue_wire.proofs.Connections.{handed_on}
 use Rattle.cue_net.proofs.Asking.{no_talk, talks_nothing, joined, talks_more}
@@ -29,7 +29,7 @@ front_taken taken taken' rest n most within few wrote =
 -- what was brought so far
 pub record Bringing (bytes rest : List ℕ) (old new : Exchange) (given given' to_come to_come' taken taken' : Option (List ℕ)) (start left : ℕ) : Type 0 where
   pub talk : Talk
-  pub passes : IsTalk talk given given' to_come to_come' taken taken'
+  pub passes : Carries talk given given' to_come to_come' taken taken'
   pub parts : bytes ≡ talk.sent ++ rest
   pub same : length talk.heard ≡ length talk.sent
   pub moves : start ≤ left + (length talk.sent + length talk.heard)

@@ -1,13 +1,14 @@
 -- What pushing and looping come to.
-use Rattle.std.proofs.Common.{ℕ, List, All, Option, Result, Err, IsErrAnd, refl, inl, inr, ⊎_elim}
+use Rattle.std.proofs.Common.{ℕ, List, All, Result, Err, IsErrAnd, refl, inl, inr, ⊎_elim}
 use Rattle.cue_lattice.specs.declared.refusal.Kind.TheVariants as kinds
 use Rattle.cue_answer.specs.declared.told.Answer.{Answer}
 use Rattle.cue_wire.specs.Clients.{IsSendable}
+use Rattle.cue_wire.specs.Connections.{Moment}
 use Rattle.cue_wire.specs.declared.request.Request as requests
 use Rattle.cue_net.specs.declared.halt.Halt.{Halt}
 use Rattle.cue_net.specs.declared.halt.Halt.TheVariants as halts
 use Rattle.cue_net.specs.Halts.{IsDevice}
-use Rattle.cue_net.specs.Loops.{IsAnswerBetween}
+use Rattle.cue_net.specs.Loops.{Ends, IsAnswerBetween}
 use Rattle.cue_net.specs.Sockets.{IsTalkAnswer}
 use Rattle.cue_net.specs.Talks.{Talk, IsAnswerOf}
 use Rattle.cue_wire.proofs.Connections.{handed_on}
@@ -22,9 +23,9 @@ of_device inputs result device =
     handed_on (λ r. IsTalkAnswer inputs r) result halts.Device device (inr (halts.Device, refl, inr (inr (inr refl))))
 
 -- a talk
-pub of_talk : (inputs : List requests.Request) (result : Result Answer Halt) (talk : Talk) (to_come : Option (List ℕ)) (turns calls calls' failed failed' : ℕ)
-    → IsAnswerOf result inputs talk to_come turns calls calls' failed failed' → IsTalkAnswer inputs result
-of_talk inputs result talk to_come turns calls calls' failed failed' answer =
+pub of_talk : (inputs : List requests.Request) (result : Result Answer Halt) (talk : Talk) (turns : ℕ) (before after : Moment)
+    → IsAnswerOf result inputs talk turns before after → IsTalkAnswer inputs result
+of_talk inputs result talk turns before after answer =
     ⊎_elim (λ told. inl (told.0, told.1, told.2.count, told.3))
     (λ cut. inr (
       cut.0,
@@ -37,9 +38,9 @@ of_talk inputs result talk to_come turns calls calls' failed failed' answer =
     answer
 
 -- a talk whose ends are both here
-pub of_both : (inputs : List requests.Request) (result : Result Answer Halt) (here there : Talk) (near far : Option (List ℕ)) (turns calls calls' failed failed' : ℕ)
-    → IsAnswerBetween result inputs here there near far turns calls calls' failed failed' → IsTalkAnswer inputs result
-of_both inputs result here there near far turns calls calls' failed failed' answer =
+pub of_both : (inputs : List requests.Request) (result : Result Answer Halt) (here there : Talk) (turns : ℕ) (before after : Ends)
+    → IsAnswerBetween result inputs here there turns before after → IsTalkAnswer inputs result
+of_both inputs result here there turns before after answer =
     ⊎_elim (λ told. inl (told.1.0, told.1.1, told.1.2.count, told.1.3))
     (λ cut. inr (
       cut.0,

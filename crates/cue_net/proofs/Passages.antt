@@ -1,9 +1,9 @@
 -- Connections that are served behind others.
-use Rattle.std.proofs.Common.{◌≡◌, ◌+◌, ℕ, zero, suc, List, [], ◌++◌, refl, subst, arith, inl, inr, ⊎_elim, Option, Result, Ok, Err, IfOk, IfErr, IsErrAnd}
+use Rattle.std.proofs.Common.{◌≡◌, ◌+◌, ℕ, zero, suc, [], ◌++◌, refl, subst, arith, inl, inr, ⊎_elim, Result, Ok, Err, IfOk, IfErr, IsErrAnd}
 use Rattle.std.proofs.lemmas.List.Elements.{All-nil, All-append}
 use Rattle.cue_answer.specs.declared.told.Answer.{Answer}
 use Rattle.cue_replica.specs.Language.{Table, opening}
-use Rattle.cue_wire.specs.Connections.{Passage}
+use Rattle.cue_wire.specs.Connections.{Moment, Passage}
 use Rattle.cue_wire.specs.Frames.{IsBody}
 use Rattle.cue_wire.specs.Serving.{ServesAll}
 use Rattle.cue_wire.proofs.Readings.{are_readings}
@@ -62,14 +62,13 @@ served_some LetsIn Serves some (suc count) door door' before after (middle, betw
 
 -- an export that is answered is that of a site which has served some requests
 pub exports : {D S K : Type 0} (Opens : D → Type 0) (LetsIn : D → D → S → K → Type 0)
-    (given to_come : S → Option (List ℕ)) (taken : K → Option (List ℕ)) (reads : S → ℕ) (writes : K → ℕ) (failed_reads : S → ℕ) (failed_writes : K → ℕ)
-    (Fails : Type 0) (count : ℕ) (result : Result Answer Halt)
-    → IsServingAt Opens LetsIn (ServesOver given to_come taken reads writes failed_reads failed_writes) Fails count result → IfOk result IsServedExport
-exports Opens LetsIn given to_come taken reads writes failed_reads failed_writes Fails count (Err halt) served = tt
-exports Opens LetsIn given to_come taken reads writes failed_reads failed_writes Fails count (Ok answer) served =
+    (at : S → K → Moment) (Fails : Type 0) (count : ℕ) (result : Result Answer Halt)
+    → IsServingAt Opens LetsIn (ServesOver at) Fails count result → IfOk result IsServedExport
+exports Opens LetsIn at Fails count (Err halt) served = tt
+exports Opens LetsIn at Fails count (Ok answer) served =
     ⊎_elim (λ none. cc) (λ there. (
       there.3.0,
-      served_some LetsIn (ServesOver given to_come taken reads writes failed_reads failed_writes)
+      served_some LetsIn (ServesOver at)
           (λ source source' sink sink' before after one. passed before after one.0) count there.0 there.1 opening there.3.0 there.3.1,
       there.3.2,
     )) served

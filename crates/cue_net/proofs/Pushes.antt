@@ -4,13 +4,14 @@ use Rattle.std.proofs.lemmas.List.{take_all, length-take-le}
 use Rattle.std.proofs.lemmas.List.Concat.{flat_map-append}
 use Rattle.std.proofs.lemmas.List.Elements.{All-take, All-drop}
 use Rattle.cue_wire.specs.Clients.{Exchange, HasTaken, request_frame, IsSendable}
+use Rattle.cue_wire.specs.Connections.{Moment, calls, failures}
 use Rattle.cue_wire.specs.declared.request.Request as requests
 use Rattle.cue_wire.specs.declared.request.Request.TheVariants as asked_of
 use Rattle.cue_net.specs.declared.halt.Halt.{Halt}
 use Rattle.cue_net.specs.Inner.Hearing.{Asked}
-use Rattle.cue_net.specs.Talks.{Talk, IsTalk, asking, IsAnswerOf}
+use Rattle.cue_net.specs.Talks.{asking}
 use Rattle.cue_net.proofs.Asking.{asks_more, asks_part}
-use Rattle.cue_net.proofs.Talks.{cut}
+use Rattle.cue_net.proofs.Talks.{cut, AskedBetween, Talked}
 
 abbrev pub frames : List requests.Request → List ℕ
 frames requests = flat_map request_frame requests
@@ -82,14 +83,13 @@ pub asks_both : (inputs : List requests.Request) → frames inputs ++ frames que
 asks_both inputs = ap (λ zs. frames inputs ++ zs) (append-nil (request_frame asked_of.AskExport))
 
 -- the inputs are not all pushed
-pub stops_first : (halt : Halt) (inputs : List requests.Request) (old new : Exchange) (given given' to_come to_come' taken taken' : Option (List ℕ))
-    (start left failed failed' calls calls' : ℕ) → HasTaken old [] → (left ≡ 0 → calls' ≡ calls + start)
-    → Asked (Err halt) (flat_map request_frame inputs) old new (length inputs) given given' to_come to_come' taken taken' start left failed failed'
-    → (talk : Talk) × IsTalk talk given given' to_come to_come' taken taken' × IsAnswerOf (Err halt) inputs talk to_come' start calls calls' failed failed'
-stops_first halt inputs old new given given' to_come to_come' taken taken' start left failed failed' calls calls' none used asked =
-    cut halt inputs old new (length inputs + 1) given given' to_come to_come' taken taken' start left failed failed' calls calls' none (omega arith) used
-    (subst (λ fs. Asked (Err halt) fs old new (length inputs + 1) given given' to_come to_come' taken taken' start left failed failed') (asks_both inputs)
-    (asks_part halt (frames inputs) (frames question) old new (length inputs) (length inputs + 1) given given' to_come to_come' taken taken' start left failed failed' (omega arith) asked))
+pub stops_first : (halt : Halt) (inputs : List requests.Request) (old new : Exchange) (before after : Moment) (start left : ℕ) → HasTaken old [] → (left ≡ 0 → calls after ≡ calls before + start)
+    → AskedBetween (Err halt) (flat_map request_frame inputs) old new (length inputs) before after start left → Talked (Err halt) inputs start before after
+stops_first halt inputs old new before after start left none used asked =
+    cut halt inputs old new (length inputs + 1) before after start left none (omega arith) used
+    (subst (λ fs. AskedBetween (Err halt) fs old new (length inputs + 1) before after start left) (asks_both inputs)
+    (asks_part halt (frames inputs) (frames question) old new (length inputs) (length inputs + 1) before.given after.given before.to_come after.to_come before.taken after.taken
+    start left (failures before) (failures after) (omega arith) asked))
 
 -- the question is asked too, or not
 pub asks_on : (u : Unit {0}) (result : Result (Unit {0}) Halt) (inputs : List requests.Request) (old mid new : Exchange) (given given' given'' to_come to_come' to_come'' taken taken' taken'' : Option (List ℕ))

@@ -1,5 +1,5 @@
 -- What is answered of a talk.
-use Rattle.std.proofs.Common.{◌≡◌, ◌≢◌, ◌⊎◌, ℕ, ◌+◌, ◌≤◌, List, [], ◌∷◌, ◌++◌, length, All, refl, ap, sym, ◌∙◌, subst, arith, append-nil, inl, inr, ⊎_elim, Option, Result, Ok, Err, IsErrOf, IsErrAnd, Vec, Global}
+use Rattle.std.proofs.Common.{◌≡◌, ◌≢◌, ◌⊎◌, ℕ, ◌+◌, ◌≤◌, List, [], ◌∷◌, ◌++◌, length, All, refl, ap, sym, ◌∙◌, subst, arith, append-nil, inl, inr, ⊎_elim, Result, Ok, Err, IsErrOf, IsErrAnd, Vec, Global}
 use Rattle.std.proofs.lemmas.List.Elements.{All-nil}
 use Rattle.cue_answer.specs.declared.told.Answer.{Answer}
 use Rattle.cue_wire.specs.Clients.{Exchange, HasTaken, all_items, IsSendable}
@@ -11,20 +11,33 @@ use Rattle.cue_net.specs.declared.halt.Halt.TheVariants as halts
 use Rattle.cue_net.specs.Halts.{IsMemory, IsTooLong}
 use Rattle.cue_net.specs.Talks.{Talk, IsTalk, asking, AreTooFew, IsCut, IsAnswerOf}
 use Rattle.cue_net.specs.Told.{AreTold}
-use Rattle.cue_net.specs.Inner.Hearing.{Lacks, Asked}
+use Rattle.cue_net.specs.Inner.Hearing.{Lacks, Asked, Carries}
+use Rattle.cue_wire.specs.Connections.{Moment, calls, failures}
 use Rattle.cue_wire.proofs.Connections.{handed_on}
 use Rattle.cue_net.proofs.Asking.{no_talk, talks_nothing}
 use Rattle.cue_net.proofs.Hearing.{in_turns, long_as}
 
+-- bytes that are carried between two moments
+pub talk_of : {talk : Talk} (before after : Moment) → Carries talk before.given after.given before.to_come after.to_come before.taken after.taken → IsTalk talk before after
+talk_of before after carried = (carried.gave, carried.took, carried.wrote)
+
+-- what asking adds between two moments
+abbrev pub AskedBetween : Result (Unit {0}) Halt → List ℕ → Exchange → Exchange → ℕ → Moment → Moment → ℕ → ℕ → Type 0
+AskedBetween result frames old new count before after left left' =
+    Asked result frames old new count before.given after.given before.to_come after.to_come before.taken after.taken left left' (failures before) (failures after)
+
+-- a talk and what is answered of it
+abbrev pub Talked : Result Answer Halt → List requests.Request → ℕ → Moment → Moment → Type 0
+Talked result inputs turns before after = (talk : Talk) × IsTalk talk before after × IsAnswerOf result inputs talk turns before after
+
 -- a talk that stops before all replies are there
-pub cut : (halt : Halt) (inputs : List requests.Request) (old new : Exchange) (count : ℕ) (given given' to_come to_come' taken taken' : Option (List ℕ))
-    (start left failed failed' calls calls' : ℕ) → HasTaken old [] → count ≤ length inputs + 1 → (left ≡ 0 → calls' ≡ calls + start)
-    → Asked (Err halt) (asking inputs) old new count given given' to_come to_come' taken taken' start left failed failed'
-    → (talk : Talk) × IsTalk talk given given' to_come to_come' taken taken' × IsAnswerOf (Err halt) inputs talk to_come' start calls calls' failed failed'
-cut halt inputs old new count given given' to_come to_come' taken taken' start left failed failed' calls calls' new_taken fewer used asked =
+pub cut : (halt : Halt) (inputs : List requests.Request) (old new : Exchange) (count : ℕ) (before after : Moment) (start left : ℕ)
+    → HasTaken old [] → count ≤ length inputs + 1 → (left ≡ 0 → calls after ≡ calls before + start)
+    → AskedBetween (Err halt) (asking inputs) old new count before after start left → Talked (Err halt) inputs start before after
+cut halt inputs old new count before after start left new_taken fewer used asked =
     let few : Lacks old new asked.talk.heard count → AreTooFew inputs asked.talk.heard = λ lacks.
     let all = lacks.0 [] new_taken in (new.replies, new.rest, all.frames, all.unfinished, omega (arith, fewer, lacks.1)) in
-    let why : IsCut halt inputs asked.talk asked.unsent to_come' start calls calls' failed failed' =
+    let why : IsCut halt inputs asked.talk asked.unsent start before after =
     ⊎_elim (λ turns. inr (inl (
       turns.0,
       record {
@@ -36,21 +49,21 @@ cut halt inputs old new count given given' to_come to_come' taken taken' start l
       device.0,
       ⊎_elim inl (λ rest. inr (⊎_elim (λ ended. inl (ended.0, few ended.1)) (λ balks. inr (inl (balks [] new_taken))) rest)) device.1,
     )) others))) asked.ends in
-    (asked.talk, asked.passes, inr (halt, asked.unsent, refl, asked.front, why))
+    (asked.talk, talk_of before after asked.passes, inr (halt, asked.unsent, refl, asked.front, why))
 
 -- a talk in which all replies are there, and what they tell
 pub answered : (u : Unit {0}) (result : Result Answer Halt) (inputs : List requests.Request) (old new : Exchange) (vectors : List (Vec ℕ Global))
-    (given given' to_come to_come' taken taken' : Option (List ℕ)) (start left failed failed' calls calls' : ℕ) → All IsSendable inputs → HasTaken old []
-    → Asked (Ok u) (asking inputs) old new (length inputs + 1) given given' to_come to_come' taken taken' start left failed failed'
+    (before after : Moment) (start left : ℕ) → All IsSendable inputs → HasTaken old []
+    → AskedBetween (Ok u) (asking inputs) old new (length inputs + 1) before after start left
     → all_items vectors ≡ new.replies
     → ((to_inputs : List (List ℕ)) × (last : List ℕ) × (all_items vectors ≡ to_inputs ++ last ∷ []) × (length to_inputs ≡ length inputs) × AreTold to_inputs last result)
     ⊎ ((length vectors ≢ length inputs + 1) × IsErrOf result halts.Device)
-    → (talk : Talk) × IsTalk talk given given' to_come to_come' taken taken' × IsAnswerOf result inputs talk to_come' start calls calls' failed failed'
-answered u result inputs old new vectors given given' to_come to_come' taken taken' start left failed failed' calls calls' fits new_taken asked are told =
+    → Talked result inputs start before after
+answered u result inputs old new vectors before after start left fits new_taken asked are told =
     let sent : asking inputs ≡ asked.talk.sent = asked.front ∙ ap (λ zs. asked.talk.sent ++ zs) asked.all ∙ append-nil asked.talk.sent in
     let all = asked.ends.0 [] new_taken in (
       asked.talk,
-      asked.passes,
+      talk_of before after asked.passes,
       ⊎_elim (λ t. inl (
         t.0,
         t.1,
@@ -81,22 +94,17 @@ answered u result inputs old new vectors given given' to_come to_come' taken tak
     )
 
 -- an input that no frame can hold
-pub too_long : (inputs : List requests.Request) (given to_come taken : Option (List ℕ)) (failed turns calls : ℕ) → (All IsSendable inputs → ⊥)
-    → (talk : Talk) × IsTalk talk given given to_come to_come taken taken × IsAnswerOf (Err (halts.Refused kinds.FrameTooLong)) inputs talk to_come turns calls calls failed failed
-too_long inputs given to_come taken failed turns calls unfit =
-    (no_talk, talks_nothing given to_come taken, inr (halts.Refused kinds.FrameTooLong, asking inputs, refl, refl, inl (refl, unfit, refl, refl)))
+pub too_long : (inputs : List requests.Request) (at : Moment) (turns : ℕ) → (All IsSendable inputs → ⊥) → Talked (Err (halts.Refused kinds.FrameTooLong)) inputs turns at at
+too_long inputs at turns unfit =
+    (no_talk, talk_of at at (talks_nothing at.given at.to_come at.taken), inr (halts.Refused kinds.FrameTooLong, asking inputs, refl, refl, inl (refl, unfit, refl, refl)))
 
 -- a client that cannot be made
-pub no_client : (halt : Halt) (inputs : List requests.Request) (given to_come taken : Option (List ℕ)) (failed turns calls : ℕ)
-    → IsMemory halt ⊎ (IsTooLong halt × (All IsSendable [] → ⊥))
-    → (talk : Talk) × IsTalk talk given given to_come to_come taken taken × IsAnswerOf (Err halt) inputs talk to_come turns calls calls failed failed
-no_client halt inputs given to_come taken failed turns calls why =
-    (no_talk, talks_nothing given to_come taken, inr (halt, asking inputs, refl, refl, ⊎_elim (λ memory. inr (inr (inl memory))) (λ long. absurd (long.1 (All-nil IsSendable))) why))
+pub no_client : (halt : Halt) (inputs : List requests.Request) (at : Moment) (turns : ℕ) → IsMemory halt ⊎ (IsTooLong halt × (All IsSendable [] → ⊥)) → Talked (Err halt) inputs turns at at
+no_client halt inputs at turns why =
+    (no_talk, talk_of at at (talks_nothing at.given at.to_come at.taken), inr (halt, asking inputs, refl, refl, ⊎_elim (λ memory. inr (inr (inl memory))) (λ long. absurd (long.1 (All-nil IsSendable))) why))
 
 -- what is answered of a talk that stops, handed on
-pub cut_on : (result : Result Answer Halt) (halt : Halt) (inputs : List requests.Request) (given given' to_come to_come' taken taken' : Option (List ℕ))
-    (turns calls calls' failed failed' : ℕ) → IsErrAnd result (λ e. e ≡ halt)
-    → (talk : Talk) × IsTalk talk given given' to_come to_come' taken taken' × IsAnswerOf (Err halt) inputs talk to_come' turns calls calls' failed failed'
-    → (talk : Talk) × IsTalk talk given given' to_come to_come' taken taken' × IsAnswerOf result inputs talk to_come' turns calls calls' failed failed'
-cut_on result halt inputs given given' to_come to_come' taken taken' turns calls calls' failed failed' is talked =
-    (talked.0, talked.1, handed_on (λ r. IsAnswerOf r inputs talked.0 to_come' turns calls calls' failed failed') result halt is talked.2)
+pub cut_on : (result : Result Answer Halt) (halt : Halt) (inputs : List requests.Request) (before after : Moment) (turns : ℕ) → IsErrAnd result (λ e. e ≡ halt)
+    → Talked (Err halt) inputs turns before after → Talked result inputs turns before after
+cut_on result halt inputs before after turns is talked =
+    (talked.0, talked.1, handed_on (λ r. IsAnswerOf r inputs talked.0 turns before after) result halt is talked.2)

@@ -11,7 +11,7 @@ use Rattle.cue_answer.specs.declared.question.Status.{Status}
 use Rattle.cue_answer.specs.declared.question.Status.TheVariants as statuses
 use Rattle.cue_answer.specs.declared.told.Answer.{Answer}
 use Rattle.cue_answer.specs.Answers.{IsAnswer, line_end, code_of}
-use Rattle.cue_replica.specs.Language.{Table, language}
+use Rattle.cue_replica.specs.Language.{Table}
 use Rattle.cue_wire.specs.declared.request.Request as requests
 use Rattle.cue_wire.specs.declared.request.Request.TheVariants as asked
 use Rattle.cue_wire.specs.Clients.{request_of, request_body, request_frame}

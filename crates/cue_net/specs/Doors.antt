@@ -1,5 +1,5 @@
 -- What passes through the network: connections through a door, and connections to a port.
-use Rattle.std.specs.Prelude.{◌≡◌, ◌⊎◌, ℕ, zero, suc, ◌+◌, List, All, Option, Result, Ok, Err}
+use Rattle.std.specs.Prelude.{◌≡◌, ◌⊎◌, ℕ, zero, suc, List, All, Result, Ok, Err}
 use Rattle.cue_lattice.specs.declared.refusal.Kind.{Kind}
 use Rattle.cue_lattice.specs.declared.refusal.Kind.TheVariants as kinds
 use Rattle.cue_answer.specs.declared.told.Answer.{Answer}
@@ -7,11 +7,11 @@ use Rattle.cue_replica.specs.Language.{Table, opening}
 use Rattle.cue_wire.specs.declared.connection.Ended.{Ended}
 use Rattle.cue_wire.specs.declared.request.Request as requests
 use Rattle.cue_wire.specs.Clients.{IsSendable}
-use Rattle.cue_wire.specs.Connections.{Passage, PassesBy, EndsAt}
+use Rattle.cue_wire.specs.Connections.{Passage, PassesBy, EndsAt, Moment}
 use Rattle.cue_net.specs.declared.halt.Halt.{Halt}
 use Rattle.cue_net.specs.declared.halt.Halt.TheVariants as halts
 use Rattle.cue_net.specs.Halts.{IsDevice, IsMemory}
-use Rattle.cue_net.specs.Loops.{IsAnswerBetween}
+use Rattle.cue_net.specs.Loops.{IsAnswerBetween, ends}
 use Rattle.cue_net.specs.Printed.{IsPrintedExport}
 use Rattle.cue_net.specs.Talks.{Talk, IsTalk, IsAnswerOf}
 
@@ -20,20 +20,13 @@ abbrev pub most_turns : ℕ
 most_turns = 100000
 
 -- A connection was served, between two moments of its source and its sink: what was read there
--- turned the one table into the other, and what was written are the replies. What the devices tell
--- is handed in: the bytes that a source gave and has still to come, those that a sink took, how
--- often each was called, and how often it failed.
-abbrev pub ServesOver : {S K : Type 0} → (S → Option (List ℕ)) → (S → Option (List ℕ))
-    → (K → Option (List ℕ)) → (S → ℕ) → (K → ℕ) → (S → ℕ) → (K → ℕ)
-    → S → K → S → K → Table → Table → Type 0
-ServesOver given to_come taken reads writes failed_reads failed_writes source sink source' sink'
-    before after =
+-- turned the one table into the other, and what was written are the replies. What the two tell at a
+-- moment is handed in.
+abbrev pub ServesOver : {S K : Type 0} → (S → K → Moment) → S → K → S → K → Table → Table → Type 0
+ServesOver at source sink source' sink' before after =
     (passage : Passage before after) × (ended : Result Ended Kind)
-    × PassesBy passage (given source) (given source') (to_come source) (to_come source')
-    (taken sink) (taken sink')
-    × EndsAt ended passage (to_come source') most_turns
-    (reads source) (reads source') (writes sink) (writes sink')
-    (failed_reads source + failed_writes sink) (failed_reads source' + failed_writes sink')
+    × PassesBy passage (at source sink) (at source' sink')
+    × EndsAt ended passage most_turns (at source sink) (at source' sink')
 
 -- A door let in so many connections, one after the other, and each was served, from the table that
 -- the one before it left.
@@ -65,16 +58,11 @@ IsServingAt {D} Opens LetsIn Serves Fails count result =
     ⊎ ((door door' : D) × Opens door × IsServing LetsIn Serves Fails count door door' result)
 
 -- A talk with a site came to this, between two moments of its source and its sink.
-abbrev pub TalksOver : {S K : Type 0} → (S → Option (List ℕ)) → (S → Option (List ℕ))
-    → (K → Option (List ℕ)) → (S → ℕ) → (K → ℕ) → (S → ℕ) → (K → ℕ)
-    → List requests.Request → Result Answer Halt → S → K → S → K → Type 0
-TalksOver given to_come taken reads writes failed_reads failed_writes inputs result
-    source sink source' sink' =
-    (talk : Talk) × IsTalk talk (given source) (given source') (to_come source) (to_come source')
-    (taken sink) (taken sink')
-    × IsAnswerOf result inputs talk (to_come source') most_turns
-    (reads source + writes sink) (reads source' + writes sink')
-    (failed_reads source + failed_writes sink) (failed_reads source' + failed_writes sink')
+abbrev pub TalksOver : {S K : Type 0} → (S → K → Moment) → List requests.Request
+    → Result Answer Halt → S → K → S → K → Type 0
+TalksOver at inputs result source sink source' sink' =
+    (talk : Talk) × IsTalk talk (at source sink) (at source' sink')
+    × IsAnswerOf result inputs talk most_turns (at source sink) (at source' sink')
 
 -- Why nobody is asked: a frame can't hold an input; or there is no connection.
 abbrev pub IsUnasked : List requests.Request → Type 0 → Result Answer Halt → Type 0
@@ -91,20 +79,13 @@ IsPushing {S} {K} Reaches Talks Fails inputs result =
     × Reaches source sink × Talks source sink source' sink'))
 
 -- A talk between a client and a site came to this, between two moments of both ends.
-abbrev pub ConversesOver : {S K : Type 0} → (S → Option (List ℕ)) → (S → Option (List ℕ))
-    → (K → Option (List ℕ)) → (S → ℕ) → (K → ℕ) → (S → ℕ) → (K → ℕ)
-    → List requests.Request → Result Answer Halt → S → K → S → K → S → K → S → K → Type 0
-ConversesOver given to_come taken reads writes failed_reads failed_writes inputs result
-    near near_sink near' near_sink' far far_sink far' far_sink' =
-    (here there : Talk) × IsTalk here (given near) (given near') (to_come near) (to_come near')
-    (taken near_sink) (taken near_sink')
-    × IsTalk there (given far) (given far') (to_come far) (to_come far')
-    (taken far_sink) (taken far_sink')
-    × IsAnswerBetween result inputs here there (to_come near') (to_come far') most_turns
-    (reads near + writes near_sink + reads far + writes far_sink)
-    (reads near' + writes near_sink' + reads far' + writes far_sink')
-    (failed_reads near + failed_writes near_sink + failed_reads far + failed_writes far_sink)
-    (failed_reads near' + failed_writes near_sink' + failed_reads far' + failed_writes far_sink')
+abbrev pub ConversesOver : {S K : Type 0} → (S → K → Moment) → List requests.Request
+    → Result Answer Halt → S → K → S → K → S → K → S → K → Type 0
+ConversesOver at inputs result near near_sink near' near_sink' far far_sink far' far_sink' =
+    (here there : Talk) × IsTalk here (at near near_sink) (at near' near_sink')
+    × IsTalk there (at far far_sink) (at far' far_sink')
+    × IsAnswerBetween result inputs here there most_turns (ends at near near_sink far far_sink)
+    (ends at near' near_sink' far' far_sink')
 
 -- What a loop came to: what a talk between both ends of one new connection did, which is there.
 abbrev pub IsLooping : {S K : Type 0} → (S → K → S → K → Type 0)

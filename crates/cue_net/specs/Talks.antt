@@ -1,12 +1,13 @@
 -- What passes on a connection between a client and a site.
 use Rattle.std.specs.Prelude.{◌≡◌, ◌≢◌, ◌⊎◌, ◌<◌, ◌≤◌, ℕ, ◌+◌}
 use Rattle.std.specs.Prelude.{List, [], ◌∷◌, ◌++◌, length, All, flat_map}
-use Rattle.std.specs.Prelude.{Option, Result, Err}
+use Rattle.std.specs.Prelude.{Result, Err}
 use Rattle.std.specs.Io.KnownBytes.{Appends, Consumes, IsAtEnd}
 use Rattle.cue_answer.specs.declared.told.Answer.{Answer}
 use Rattle.cue_wire.specs.declared.request.Request as requests
 use Rattle.cue_wire.specs.declared.request.Request.TheVariants as asked
 use Rattle.cue_wire.specs.Clients.{request_frame, IsSendable}
+use Rattle.cue_wire.specs.Connections.{Moment, calls, failures}
 use Rattle.cue_wire.specs.Frames.{AreFrames, IsUnfinished, HasFault}
 use Rattle.cue_net.specs.declared.halt.Halt.{Halt}
 use Rattle.cue_net.specs.Halts.{IsDevice, IsMemory, IsTurnsUsed, IsTooLong}
@@ -19,11 +20,11 @@ pub record Talk : Type 0 where
 
 -- What a source gave is what was read, and what a sink took is what was written, as far as they
 -- tell it.
-pub record IsTalk (talk : Talk) (given given' to_come to_come' taken taken' : Option (List ℕ))
-    : Type 0 where
-  pub gave : Appends given given' talk.heard
-  pub took : Consumes to_come to_come' talk.heard
-  pub wrote : Appends taken taken' talk.sent
+abbrev pub IsTalk : Talk → Moment → Moment → Type 0
+IsTalk talk before after =
+    Appends before.given after.given talk.heard
+    × Consumes before.to_come after.to_come talk.heard
+    × Appends before.taken after.taken talk.sent
 
 -- the frames of the inputs, and that of the question for the export
 abbrev pub asking : List requests.Request → List ℕ
@@ -55,29 +56,29 @@ AreTooFew inputs heard =
 
 -- All turns are used, in as many calls, by which at least as many bytes passed; and something is
 -- still to be sent or heard.
-pub record AreUsedUp (inputs : List requests.Request) (talk : Talk) (unsent : List ℕ)
-    (turns calls calls' : ℕ) : Type 0 where
-  pub called : calls' ≡ calls + turns
+pub record AreUsedUp (inputs : List requests.Request) (talk : Talk) (unsent : List ℕ) (turns : ℕ)
+    (before after : Moment) : Type 0 where
+  pub called : calls after ≡ calls before + turns
   pub moved : turns ≤ length talk.sent + length talk.heard
   pub more : (unsent ≢ []) ⊎ AreTooFew inputs talk.heard
 
 -- Why a talk ends without all replies. Nothing is written where a frame can't hold an input.
-abbrev pub IsCut : Halt → List requests.Request → Talk → List ℕ → Option (List ℕ)
-    → ℕ → ℕ → ℕ → ℕ → ℕ → Type 0
-IsCut halt inputs talk unsent to_come turns calls calls' failed failed' =
+abbrev pub IsCut : Halt → List requests.Request → Talk → List ℕ → ℕ → Moment → Moment → Type 0
+IsCut halt inputs talk unsent turns before after =
     (IsTooLong halt × (All IsSendable inputs → ⊥) × (talk.sent ≡ []) × (talk.heard ≡ []))
-    ⊎ (IsTurnsUsed halt × AreUsedUp inputs talk unsent turns calls calls')
+    ⊎ (IsTurnsUsed halt × AreUsedUp inputs talk unsent turns before after)
     ⊎ IsMemory halt
-    ⊎ (IsDevice halt × ((failed < failed') ⊎ (IsAtEnd to_come × AreTooFew inputs talk.heard)
+    ⊎ (IsDevice halt × ((failures before < failures after)
+    ⊎ (IsAtEnd after.to_come × AreTooFew inputs talk.heard)
     ⊎ AreNoReplies inputs talk.heard))
 
 -- What is answered of a talk: what the replies tell; or why it was cut, where the front of the
 -- requests' frames was sent.
-abbrev pub IsAnswerOf : Result Answer Halt → List requests.Request → Talk → Option (List ℕ)
-    → ℕ → ℕ → ℕ → ℕ → ℕ → Type 0
-IsAnswerOf result inputs talk to_come turns calls calls' failed failed' =
+abbrev pub IsAnswerOf : Result Answer Halt → List requests.Request → Talk → ℕ → Moment → Moment
+    → Type 0
+IsAnswerOf result inputs talk turns before after =
     ((replies : List (List ℕ)) × (last : List ℕ) × AreReplies inputs talk replies last
     × AreTold replies last result)
     ⊎ ((halt : Halt) × (unsent : List ℕ) × (result ≡ Err halt)
     × (asking inputs ≡ talk.sent ++ unsent)
-    × IsCut halt inputs talk unsent to_come turns calls calls' failed failed')
+    × IsCut halt inputs talk unsent turns before after)

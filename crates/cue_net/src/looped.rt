@@ -2,11 +2,12 @@ ghost use Rattle.std.specs.Prelude.{◌≡◌, ◌+◌, ◌-◌, ◌^◌, ◌≤
 ghost use Rattle.std.specs.Prelude.{IfOk, IfErr};
 ghost use Rattle.cue_replica.specs.Language.{opening};
 ghost use Rattle.cue_wire.specs.Clients.{request_frame, IsSendable};
+ghost use Rattle.cue_wire.specs.Connections.{moment};
 ghost use Rattle.cue_wire.specs.Sessions.{reading};
 ghost use Rattle.cue_net.specs.Doors.{ConversesOver, IsLooping};
 ghost use Rattle.cue_net.specs.Halts.{IsMemory};
 ghost use Rattle.cue_net.specs.Inner.Looping.{Exchanged};
-ghost use Rattle.cue_net.specs.Loops.{IsAnswerBetween};
+ghost use Rattle.cue_net.specs.Loops.{IsAnswerBetween, ends};
 ghost use Rattle.cue_net.specs.Sockets.{IsTalkAnswer};
 ghost use Rattle.cue_net.specs.Talks.{Talk, IsTalk};
 
@@ -34,9 +35,9 @@ use std::alloc::Global;
 pub fn loop_for<H>(rt: &H, inputs: &[Request]) -> Result<Answer, Halt>
 where
     H: AllocGlobal + Network,
-    ensures looped { IsLooping (H.joins rt.now) (ConversesOver H.Input.given H.Input.to_come
-        H.Output.taken H.Input.called H.Output.called H.Input.failed H.Output.failed inputs.now
-        result) (H.fails rt.now) inputs.now result }
+    ensures looped { IsLooping (H.joins rt.now) (ConversesOver (moment H.Input.given
+        H.Input.to_come H.Output.taken H.Input.called H.Output.called H.Input.failed
+        H.Output.failed) inputs.now result) (H.fails rt.now) inputs.now result }
     ensures answer { IsTalkAnswer inputs.now result }
 {
     if !all_fit(inputs) {
@@ -63,23 +64,12 @@ pub fn converse<S: Source, K: Sink>(
         × (K.called near.old.sink + turns ≤ 2 ^ 64 - 1) }
     requires far { (S.called far.old.source + turns ≤ 2 ^ 64 - 1)
         × (K.called far.old.sink + turns ≤ 2 ^ 64 - 1) }
-    ensures answer { (here there : Talk)
-        × IsTalk here (S.given near.old.source) (S.given near.new.source)
-        (S.to_come near.old.source) (S.to_come near.new.source)
-        (K.taken near.old.sink) (K.taken near.new.sink)
-        × IsTalk there (S.given far.old.source) (S.given far.new.source)
-        (S.to_come far.old.source) (S.to_come far.new.source)
-        (K.taken far.old.sink) (K.taken far.new.sink)
-        × IsAnswerBetween result inputs.now here there
-        (S.to_come near.new.source) (S.to_come far.new.source) turns
-        (S.called near.old.source + K.called near.old.sink + S.called far.old.source
-        + K.called far.old.sink)
-        (S.called near.new.source + K.called near.new.sink + S.called far.new.source
-        + K.called far.new.sink)
-        (S.failed near.old.source + K.failed near.old.sink + S.failed far.old.source
-        + K.failed far.old.sink)
-        (S.failed near.new.source + K.failed near.new.sink + S.failed far.new.source
-        + K.failed far.new.sink) }
+    ensures answer { let at = moment S.given S.to_come K.taken S.called K.called S.failed
+        K.failed in
+        let before = ends at near.old.source near.old.sink far.old.source far.old.sink in
+        let after = ends at near.new.source near.new.sink far.new.source far.new.sink in
+        (here there : Talk) × IsTalk here before.near after.near × IsTalk there before.far after.far
+        × IsAnswerBetween result inputs.now here there turns before after }
     ensures turns { S.called near.new.source + K.called near.new.sink
         + S.called far.new.source + K.called far.new.sink
         ≤ S.called near.old.source + K.called near.old.sink

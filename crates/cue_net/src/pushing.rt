@@ -3,6 +3,7 @@ ghost use Rattle.std.specs.Prelude.{length};
 ghost use Rattle.std.specs.Prelude.{flat_map, All, IsTrue, IfOk, IfErr, OnOk};
 ghost use Rattle.std.specs.Io.KnownBytes.{Appends};
 ghost use Rattle.cue_wire.specs.Clients.{request_frame, IsSendable, HasTaken};
+ghost use Rattle.cue_wire.specs.Connections.{moment};
 ghost use Rattle.cue_net.specs.Doors.{IsPushing, TalksOver};
 ghost use Rattle.cue_net.specs.Halts.{IsDevice, IsMemory, IsTooLong};
 ghost use Rattle.cue_net.specs.Inner.Hearing.{Asked, Heard, Hears, Balks};
@@ -38,9 +39,9 @@ const GROUP: usize = 256;
 pub fn push_for<H>(rt: &H, port: u16, inputs: &[Request]) -> Result<Answer, Halt>
 where
     H: AllocGlobal + Network,
-    ensures pushed { IsPushing (H.reaches rt.now port) (TalksOver H.Input.given H.Input.to_come
-        H.Output.taken H.Input.called H.Output.called H.Input.failed H.Output.failed inputs.now
-        result) (H.fails rt.now) inputs.now result }
+    ensures pushed { IsPushing (H.reaches rt.now port) (TalksOver (moment H.Input.given
+        H.Input.to_come H.Output.taken H.Input.called H.Output.called H.Input.failed
+        H.Output.failed) inputs.now result) (H.fails rt.now) inputs.now result }
     ensures answer { IsTalkAnswer inputs.now result }
 {
     if !all_fit(inputs) {
@@ -70,11 +71,11 @@ pub fn push<S: Source, K: Sink>(
 ) -> Result<Answer, Halt>
     requires reads { S.called source.old + turns ≤ 2 ^ 64 - 1 }
     requires writes { K.called sink.old + turns ≤ 2 ^ 64 - 1 }
-    ensures answer { (talk : Talk) × IsTalk talk (S.given source.old) (S.given source.new)
-        (S.to_come source.old) (S.to_come source.new) (K.taken sink.old) (K.taken sink.new)
-        × IsAnswerOf result inputs.now talk (S.to_come source.new) turns
-        (S.called source.old + K.called sink.old) (S.called source.new + K.called sink.new)
-        (S.failed source.old + K.failed sink.old) (S.failed source.new + K.failed sink.new) }
+    ensures answer { let at = moment S.given S.to_come K.taken S.called K.called S.failed
+        K.failed in
+        (talk : Talk) × IsTalk talk (at source.old sink.old) (at source.new sink.new)
+        × IsAnswerOf result inputs.now talk turns (at source.old sink.old)
+        (at source.new sink.new) }
     ensures turns { S.called source.new + K.called sink.new
         ≤ S.called source.old + K.called sink.old + turns }
 {

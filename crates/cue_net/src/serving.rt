@@ -1,4 +1,5 @@
 ghost use Rattle.std.specs.Prelude.{◌≡◌, IfOk, IfErr};
+ghost use Rattle.cue_wire.specs.Connections.{moment};
 ghost use Rattle.cue_net.specs.Doors.{IsServing, IsServingAt, ServesOver};
 ghost use Rattle.cue_net.specs.Halts.{IsDeviceOrMemory};
 ghost use Rattle.cue_net.specs.Printed.{IsPrintedExport, IsServedExport};
@@ -22,8 +23,8 @@ pub fn serve_for<H>(rt: &H, port: u16, count: u16) -> Result<Answer, Halt>
 where
     H: AllocGlobal + Network,
     ensures served { IsServingAt (H.opens rt.now port) (H.lets_in rt.now)
-        (ServesOver H.Input.given H.Input.to_come H.Output.taken H.Input.called H.Output.called
-        H.Input.failed H.Output.failed) (H.fails rt.now) count result }
+        (ServesOver (moment H.Input.given H.Input.to_come H.Output.taken H.Input.called
+        H.Output.called H.Input.failed H.Output.failed)) (H.fails rt.now) count result }
     ensures export { IfOk result IsServedExport }
     ensures halt { IfErr result IsDeviceOrMemory }
 {
@@ -42,9 +43,9 @@ where
 pub fn serve_from<H>(rt: &H, door: &mut H::Door, count: u16) -> Result<Answer, Halt>
 where
     H: AllocGlobal + Network,
-    ensures { IsServing (H.lets_in rt.now) (ServesOver H.Input.given H.Input.to_come H.Output.taken
-        H.Input.called H.Output.called H.Input.failed H.Output.failed) (H.fails rt.now)
-        count door.old door.new result }
+    ensures { IsServing (H.lets_in rt.now) (ServesOver (moment H.Input.given H.Input.to_come
+        H.Output.taken H.Input.called H.Output.called H.Input.failed H.Output.failed))
+        (H.fails rt.now) count door.old door.new result }
 {
     let mut site = Replica::new(rt.alloc());
     for _served in 0..count {
@@ -66,7 +67,7 @@ fn exported(alloc: Global, site: &Replica) -> Result<Answer, Memory>
 /// Serves one connection to its end, whatever that is: what ends one connection ends no other.
 fn serve_one<S: Source, K: Sink>(alloc: Global, end: &mut End<S, K>, site: &mut Replica)
     requires { (S.called end.old.source ≡ 0) × (K.called end.old.sink ≡ 0) }
-    ensures { ServesOver S.given S.to_come K.taken S.called K.called S.failed K.failed
+    ensures { ServesOver (moment S.given S.to_come K.taken S.called K.called S.failed K.failed)
         end.old.source end.old.sink end.new.source end.new.sink site.old site.new }
 {
     let _ended = serve(alloc, &mut end.source, &mut end.sink, site, MAX_TURNS);

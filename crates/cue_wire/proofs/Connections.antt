@@ -11,7 +11,7 @@ use Rattle.std.specs.Int.{w32, from_be_bytes}
 use Rattle.cue_replica.specs.Language.{Table}
 use Rattle.cue_wire.specs.Serving.{ServesAll}
 use Rattle.cue_wire.specs.Sessions.{Standing, reading, ended, Served, standing_after}
-use Rattle.cue_wire.specs.Connections.{IsFault, IsStop, Passage, PassesBy, EndsAt}
+use Rattle.cue_wire.specs.Connections.{IsFault, IsStop, Passage, PassesBy, EndsAt, Moment, calls, failures}
 use Rattle.cue_wire.specs.Inner.Parts.{IsWriteFault, Moves, Replied, RepliesAt, IsPartServed, GoesOn}
 use Rattle.cue_wire.specs.Frames.{framed, frame_limit, named_length, IsBody, IsUnfinished, NamesTooMany, StopsAt}
 
@@ -269,44 +269,42 @@ split_stream whole stream rest part behind n is front back =
     ∙ sym (append_assoc stream part behind)
 
 -- all replies to what was read so far are written, and the session keeps what comes behind
-pub record SoFar (before now : Table) (session : Standing) (given given' to_come to_come' taken taken' : Option (List ℕ)) (reads reads' writes writes' : ℕ) : Type 0 where
+pub record SoFar (before now : Table) (session : Standing) (start at : Moment) : Type 0 where
   pub read : List ℕ
   pub kept : List ℕ
   pub written : List ℕ
   pub keeps : session ≡ reading kept
   pub unfinished : IsUnfinished kept
   pub served : Served read kept before now [] written
-  pub gave : Appends given given' read
-  pub took : Consumes to_come to_come' read
-  pub wrote : Appends taken taken' written
-  pub pulled : reads' ≤ reads + length read
-  pub pushed : writes' ≤ writes + length written
+  pub gave : Appends start.given at.given read
+  pub took : Consumes start.to_come at.to_come read
+  pub wrote : Appends start.taken at.taken written
+  pub pulled : at.reads ≤ start.reads + length read
+  pub pushed : at.writes ≤ start.writes + length written
 
-pub begun : (table : Table) (session : Standing) (given to_come taken : Option (List ℕ)) (reads writes : ℕ) → session ≡ reading []
-    → SoFar table table session given given to_come to_come taken taken reads reads writes writes
+pub begun : (table : Table) (session : Standing) (at : Moment) → session ≡ reading [] → SoFar table table session at at
 unfolding ServesAll
-begun table session given to_come taken reads writes is = record {
+begun table session at is = record {
   read = [];
   kept = [];
   written = [];
   keeps = is;
   unfinished = inl (omega arith);
   served = record { bodies = []; replies = []; frames = record { whole = refl; short = All-nil IsBody }; tables = (refl, refl); added = refl };
-  gave = Appends-nil given;
-  took = Consumes-nil to_come;
-  wrote = Appends-nil taken;
+  gave = Appends-nil at.given;
+  took = Consumes-nil at.to_come;
+  wrote = Appends-nil at.taken;
   pulled = omega arith;
   pushed = omega arith;
 }
 
 -- one piece was read, and the replies to it are written
-pub went_on : (before now after : Table) (session session' : Standing) (given given' given'' to_come to_come' to_come'' taken taken' taken'' : Option (List ℕ))
-    (result : Result (Unit {0}) Kind) (u : Unit {0}) (piece : List ℕ) (reads reads' reads'' writes writes' writes'' start left' failed failed' : ℕ)
-    → (s : SoFar before now session given given' to_come to_come' taken taken' reads reads' writes writes')
-    → Appends given' given'' piece → Consumes to_come' to_come'' piece → result ≡ Ok u → 0 < length piece → reads'' ≡ reads' + 1 → writes'' + left' ≡ writes' + start → failed' ≡ failed
-    → Replied result (s.kept ++ piece) session' now after taken' taken'' start left' failed failed'
-    → SoFar before after session' given given'' to_come to_come'' taken taken'' reads reads'' writes writes''
-went_on before now after session session' given given' given'' to_come to_come' to_come'' taken taken' taken'' result u piece reads reads' reads'' writes writes' writes'' start left' failed failed' s gave took ok some pull push sound r =
+pub went_on : (before now after : Table) (session session' : Standing) (start at next : Moment) (result : Result (Unit {0}) Kind) (u : Unit {0}) (piece : List ℕ) (left left' failed failed' : ℕ)
+    → (s : SoFar before now session start at) → Appends at.given next.given piece → Consumes at.to_come next.to_come piece → result ≡ Ok u → 0 < length piece
+    → next.reads ≡ at.reads + 1 → next.writes + left' ≡ at.writes + left → failed' ≡ failed
+    → Replied result (s.kept ++ piece) session' now after at.taken next.taken left left' failed failed'
+    → SoFar before after session' start next
+went_on before now after session session' start at next result u piece left left' failed failed' s gave took ok some pull push sound r =
     let ends = subst (λ e. RepliesAt e r.rest r.unwritten session' left' failed failed') ok r.ends in
     record {
       read = s.read ++ piece;
@@ -316,30 +314,28 @@ went_on before now after session session' given given' given'' to_come to_come' 
       unfinished = ends.1;
       served = served_on s.read s.kept piece r.rest before now after s.written r.written s.served
           (subst (Served (s.kept ++ piece) r.rest now after []) (ap (λ zs. r.written ++ zs) ends.2 ∙ append-nil r.written) r.served);
-      gave = Appends-trans given given' given'' s.read piece s.gave gave;
-      took = Consumes-trans to_come to_come' to_come'' s.read piece s.took took;
-      wrote = Appends-trans taken taken' taken'' s.written r.written s.wrote r.wrote;
+      gave = Appends-trans start.given at.given next.given s.read piece s.gave gave;
+      took = Consumes-trans start.to_come at.to_come next.to_come s.read piece s.took took;
+      wrote = Appends-trans start.taken at.taken next.taken s.written r.written s.wrote r.wrote;
       pulled = omega (arith, s.pulled, some, pull, length-append s.read piece);
       pushed = omega (arith, s.pushed, r.moves, push, sound, length-append s.written r.written);
     }
 
-stop_for : (kind : Kind) (rest unwritten read written : List ℕ) (left failed failed' turns reads reads' writes writes' failures failures' : ℕ)
-    → (left ≡ 0 → failed' ≡ failed → (reads' + writes' ≡ reads + writes + turns) × (reads' ≤ reads + length read) × (writes' ≤ writes + length written))
-    → (failed < failed' → failures < failures') → IsStop kind rest unwritten (IsWriteFault kind left failed failed')
-    → IsStop kind rest unwritten (IsFault kind read written turns reads reads' writes writes' failures failures')
-stop_for kind rest unwritten read written left failed failed' turns reads reads' writes writes' failures failures' used broke =
+stop_for : (kind : Kind) (rest unwritten read written : List ℕ) (left failed failed' turns : ℕ) (start at : Moment)
+    → (left ≡ 0 → failed' ≡ failed → (calls at ≡ calls start + turns) × (at.reads ≤ start.reads + length read) × (at.writes ≤ start.writes + length written))
+    → (failed < failed' → failures start < failures at) → IsStop kind rest unwritten (IsWriteFault kind left failed failed')
+    → IsStop kind rest unwritten (IsFault kind read written turns start at)
+stop_for kind rest unwritten read written left failed failed' turns start at used broke =
     ⊎_elim inl (λ others. inr (⊎_elim inl (λ fault. inr (⊎_elim (λ out. let all = used out.1 out.2 in inl (out.0, all.0, all.1, all.2)) (λ device. inr (device.0, broke device.1)) fault)) others))
 
 -- one piece was read, and then serving stopped
-pub stopped : (before now after : Table) (session session' : Standing) (given given' given'' to_come to_come' to_come'' taken taken' taken'' : Option (List ℕ))
-    (result : Result (Unit {0}) Kind) (kind : Kind) (piece : List ℕ) (turns reads reads' reads'' writes writes' writes'' start left' failed failed' failures failures' : ℕ)
-    → (s : SoFar before now session given given' to_come to_come' taken taken' reads reads' writes writes')
-    → Appends given' given'' piece → Consumes to_come' to_come'' piece → result ≡ Err kind → 0 < length piece → reads'' ≡ reads' + 1 → writes'' + left' ≡ writes' + start
-    → Replied result (s.kept ++ piece) session' now after taken' taken'' start left' failed failed'
-    → (left' ≡ 0 → reads'' + writes'' ≡ reads + writes + turns) → (failed < failed' → failures < failures')
-    → (passage : Passage before after) × PassesBy passage given given'' to_come to_come'' taken taken''
-    × EndsAt (Err kind) passage to_come'' turns reads reads'' writes writes'' failures failures'
-stopped before now after session session' given given' given'' to_come to_come' to_come'' taken taken' taken'' result kind piece turns reads reads' reads'' writes writes' writes'' start left' failed failed' failures failures' s gave took err some pull push r used broke =
+pub stopped : (before now after : Table) (session session' : Standing) (start at next : Moment) (result : Result (Unit {0}) Kind) (kind : Kind) (piece : List ℕ) (turns left left' failed failed' : ℕ)
+    → (s : SoFar before now session start at) → Appends at.given next.given piece → Consumes at.to_come next.to_come piece → result ≡ Err kind → 0 < length piece
+    → next.reads ≡ at.reads + 1 → next.writes + left' ≡ at.writes + left
+    → Replied result (s.kept ++ piece) session' now after at.taken next.taken left left' failed failed'
+    → (left' ≡ 0 → calls next ≡ calls start + turns) → (failed < failed' → failures start < failures next)
+    → (passage : Passage before after) × PassesBy passage start next × EndsAt (Err kind) passage turns start next
+stopped before now after session session' start at next result kind piece turns left left' failed failed' s gave took err some pull push r used broke =
     let ends = subst (λ e. RepliesAt e r.rest r.unwritten session' left' failed failed') err r.ends in (
       record {
         read = s.read ++ piece;
@@ -350,12 +346,12 @@ stopped before now after session session' given given' given'' to_come to_come' 
             (served_on s.read s.kept piece r.rest before now after s.written (r.written ++ r.unwritten) s.served r.served);
       },
       (
-        Appends-trans given given' given'' s.read piece s.gave gave,
-        Consumes-trans to_come to_come' to_come'' s.read piece s.took took,
-        Appends-trans taken taken' taken'' s.written r.written s.wrote r.wrote,
+        Appends-trans start.given at.given next.given s.read piece s.gave gave,
+        Consumes-trans start.to_come at.to_come next.to_come s.read piece s.took took,
+        Appends-trans start.taken at.taken next.taken s.written r.written s.wrote r.wrote,
       ),
       (
-        stop_for kind r.rest r.unwritten (s.read ++ piece) (s.written ++ r.written) left' failed failed' turns reads reads'' writes writes'' failures failures'
+        stop_for kind r.rest r.unwritten (s.read ++ piece) (s.written ++ r.written) left' failed failed' turns start next
             (λ none sound. (
               used none,
               omega (arith, s.pulled, some, pull, length-append s.read piece),
@@ -366,11 +362,15 @@ stopped before now after session session' given given' given'' to_come to_come' 
       ),
     )
 
+-- without the counts of calls
+abbrev pub uncounted : Moment → Moment
+uncounted at = record at { reads = 0; writes = 0 }
+
 -- a read that gave nothing
-pub none_read : (before now : Table) (session : Standing) (given given' given'' to_come to_come' to_come'' taken taken' : Option (List ℕ)) (piece : List ℕ)
-    (reads reads' writes writes' : ℕ) → (s : SoFar before now session given given' to_come to_come' taken taken' reads reads' writes writes') → piece ≡ [] → Appends given' given'' piece → Consumes to_come' to_come'' piece
-    → SoFar before now session given given'' to_come to_come'' taken taken' 0 0 0 0
-none_read before now session given given' given'' to_come to_come' to_come'' taken taken' piece reads reads' writes writes' s nil gave took =
+pub none_read : (before now : Table) (session : Standing) (start at next : Moment) (piece : List ℕ)
+    → (s : SoFar before now session start at) → piece ≡ [] → Appends at.given next.given piece → Consumes at.to_come next.to_come piece → next.taken ≡ at.taken
+    → SoFar before now session (uncounted start) (uncounted next)
+none_read before now session start at next piece s nil gave took same_taken =
     let same = ap (λ zs. s.read ++ zs) nil ∙ append-nil s.read in
     record {
       read = s.read;
@@ -379,38 +379,36 @@ none_read before now session given given' given'' to_come to_come' to_come'' tak
       keeps = s.keeps;
       unfinished = s.unfinished;
       served = s.served;
-      gave = subst (Appends given given'') same (Appends-trans given given' given'' s.read piece s.gave gave);
-      took = subst (Consumes to_come to_come'') same (Consumes-trans to_come to_come' to_come'' s.read piece s.took took);
-      wrote = s.wrote;
+      gave = subst (Appends start.given next.given) same (Appends-trans start.given at.given next.given s.read piece s.gave gave);
+      took = subst (Consumes start.to_come next.to_come) same (Consumes-trans start.to_come at.to_come next.to_come s.read piece s.took took);
+      wrote = subst (λ t. Appends start.taken t s.written) (sym same_taken) s.wrote;
       pulled = omega arith;
       pushed = omega arith;
     }
 
 -- a read that failed
-pub failed_read : (before now : Table) (session : Standing) (given given' given'' to_come to_come' to_come'' taken taken' : Option (List ℕ))
-    (reads reads' writes writes' : ℕ) → (s : SoFar before now session given given' to_come to_come' taken taken' reads reads' writes writes') → Keeps given' given'' → Keeps to_come' to_come''
-    → SoFar before now session given given'' to_come to_come'' taken taken' reads reads' writes writes'
-failed_read before now session given given' given'' to_come to_come' to_come'' taken taken' reads reads' writes writes' s gave took = record {
+pub failed_read : (before now : Table) (session : Standing) (start at : Moment) (given to_come : Option (List ℕ))
+    → (s : SoFar before now session start at) → Keeps at.given given → Keeps at.to_come to_come
+    → SoFar before now session start (record at { given = given; to_come = to_come })
+failed_read before now session start at given to_come s gave took = record {
   read = s.read;
   kept = s.kept;
   written = s.written;
   keeps = s.keeps;
   unfinished = s.unfinished;
   served = s.served;
-  gave = Appends-kept given given' given'' s.read s.gave gave;
-  took = Consumes-kept to_come to_come' to_come'' s.read s.took took;
+  gave = Appends-kept start.given at.given given s.read s.gave gave;
+  took = Consumes-kept start.to_come at.to_come to_come s.read s.took took;
   wrote = s.wrote;
   pulled = s.pulled;
   pushed = s.pushed;
 }
 
 -- serving ends where all replies are written
-pub halted : (before now : Table) (session : Standing) (given given' to_come to_come' taken taken' : Option (List ℕ))
-    (reads reads' writes writes' : ℕ) → (s : SoFar before now session given given' to_come to_come' taken taken' reads reads' writes writes')
+pub halted : (before now : Table) (session : Standing) (start at : Moment) → (s : SoFar before now session start at)
     (Ends : List ℕ → List ℕ → List ℕ → List ℕ → Type 0) → Ends s.kept [] s.read s.written
-    → (passage : Passage before now) × PassesBy passage given given' to_come to_come' taken taken'
-    × Ends passage.rest passage.unwritten passage.read passage.written
-halted before now session given given' to_come to_come' taken taken' reads reads' writes writes' s Ends ends = (
+    → (passage : Passage before now) × PassesBy passage start at × Ends passage.rest passage.unwritten passage.read passage.written
+halted before now session start at s Ends ends = (
   record {
     read = s.read;
     rest = s.kept;

@@ -18,14 +18,45 @@ pub record Passage (before after : Table) : Type 0 where
   pub unwritten : List ℕ
   pub served : Served read rest before after [] (written ++ unwritten)
 
+-- What the two devices of a connection tell at a moment: the bytes that the source gave and has
+-- still to come, and those that the sink took, where these are known; and how often each was
+-- called, and failed.
+pub record Moment : Type 0 where
+  pub given : Option (List ℕ)
+  pub to_come : Option (List ℕ)
+  pub taken : Option (List ℕ)
+  pub reads : ℕ
+  pub writes : ℕ
+  pub failed_reads : ℕ
+  pub failed_writes : ℕ
+
+-- what these two tell, by what devices of their types do
+abbrev pub moment : {S K : Type 0} → (S → Option (List ℕ)) → (S → Option (List ℕ))
+    → (K → Option (List ℕ)) → (S → ℕ) → (K → ℕ) → (S → ℕ) → (K → ℕ) → S → K → Moment
+moment given to_come taken reads writes failed_reads failed_writes source sink = record {
+  given = given source;
+  to_come = to_come source;
+  taken = taken sink;
+  reads = reads source;
+  writes = writes sink;
+  failed_reads = failed_reads source;
+  failed_writes = failed_writes sink;
+}
+
+-- how many calls were made, and how many of them failed
+abbrev pub calls : Moment → ℕ
+calls at = at.reads + at.writes
+
+abbrev pub failures : Moment → ℕ
+failures at = at.failed_reads + at.failed_writes
+
 -- What a source gave is what was read, and what a sink took is what was written, as far as they
 -- tell it.
-abbrev pub PassesBy :
-    {before after : Table} → Passage before after → Option (List ℕ) → Option (List ℕ)
-    → Option (List ℕ) → Option (List ℕ) → Option (List ℕ) → Option (List ℕ) → Type 0
-PassesBy passage given given' to_come to_come' taken taken' =
-    Appends given given' passage.read × Consumes to_come to_come' passage.read
-    × Appends taken taken' passage.written
+abbrev pub PassesBy : {start end : Table} → Passage start end → Moment → Moment → Type 0
+PassesBy passage before after =
+    Appends before.given after.given passage.read
+    × Consumes before.to_come after.to_come passage.read
+    × Appends before.taken after.taken passage.written
 
 -- Why serving stops before the end of the input: the next bytes name a length that no frame has, or
 -- memory ran out, and then all replies are written; or writing them stops.
@@ -37,21 +68,22 @@ IsStop kind rest unwritten Stops =
 
 -- The turns are used, in as many calls, with at least as many bytes read as there were reads and
 -- written as there were writes; or a device failed.
-abbrev pub IsFault : Kind → List ℕ → List ℕ → ℕ → ℕ → ℕ → ℕ → ℕ → ℕ → ℕ → Type 0
-IsFault kind read written turns reads reads' writes writes' failed failed' =
-    ((kind ≡ kinds.TurnsUsed) × (reads' + writes' ≡ reads + writes + turns)
-    × (reads' ≤ reads + length read) × (writes' ≤ writes + length written))
-    ⊎ ((kind ≡ kinds.Device) × (failed < failed'))
+abbrev pub IsFault : Kind → List ℕ → List ℕ → ℕ → Moment → Moment → Type 0
+IsFault kind read written turns before after =
+    ((kind ≡ kinds.TurnsUsed) × (calls after ≡ calls before + turns)
+    × (after.reads ≤ before.reads + length read)
+    × (after.writes ≤ before.writes + length written))
+    ⊎ ((kind ≡ kinds.Device) × (failures before < failures after))
 
 -- How serving ends: at the end of the input, where all that was read is served but a frame that
 -- isn't whole, and all replies are written; or before, and then memory ran out only where bytes
 -- were read.
-abbrev pub EndsAt : {before after : Table} → Result Ended Kind → Passage before after
-    → Option (List ℕ) → ℕ → ℕ → ℕ → ℕ → ℕ → ℕ → ℕ → Type 0
-EndsAt (Ok ended) passage to_come turns reads reads' writes writes' failed failed' =
-    IsAtEnd to_come × IsUnfinished passage.rest × (passage.unwritten ≡ [])
-    × (IsTrue ended.whole ↔ passage.rest ≡ []) × (failed' ≡ failed)
-EndsAt (Err kind) passage to_come turns reads reads' writes writes' failed failed' =
-    IsStop kind passage.rest passage.unwritten (IsFault kind passage.read passage.written turns
-    reads reads' writes writes' failed failed')
+abbrev pub EndsAt : {start end : Table} → Result Ended Kind → Passage start end → ℕ → Moment
+    → Moment → Type 0
+EndsAt (Ok ended) passage turns before after =
+    IsAtEnd after.to_come × IsUnfinished passage.rest × (passage.unwritten ≡ [])
+    × (IsTrue ended.whole ↔ passage.rest ≡ []) × (failures after ≡ failures before)
+EndsAt (Err kind) passage turns before after =
+    IsStop kind passage.rest passage.unwritten
+    (IsFault kind passage.read passage.written turns before after)
     × (kind ≡ kinds.Memory → passage.read ≢ [])

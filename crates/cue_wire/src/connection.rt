@@ -2,7 +2,7 @@ ghost use Rattle.std.specs.Prelude.{◌≡◌, ◌-◌, ◌+◌, ◌^◌, ◌≤
 ghost use Rattle.std.specs.Prelude.{IfErr};
 ghost use Rattle.std.specs.Io.KnownBytes.{Appends};
 ghost use Rattle.cue_replica.specs.Language.{Table};
-ghost use Rattle.cue_wire.specs.Connections.{Passage, PassesBy, EndsAt};
+ghost use Rattle.cue_wire.specs.Connections.{Passage, PassesBy, EndsAt, moment};
 ghost use Rattle.cue_wire.specs.Frames.{IsUnfinished};
 ghost use Rattle.cue_wire.specs.Inner.Parts.{Replied, IsWriteFault, IsPartServed, GoesOn, Moves};
 ghost use Rattle.cue_wire.specs.Sessions.{reading};
@@ -44,12 +44,10 @@ pub fn serve<S: Source, K: Sink>(
 ) -> Result<Ended, Kind>
     requires reads { S.called source.old + turns ≤ 2 ^ 64 - 1 }
     requires writes { K.called sink.old + turns ≤ 2 ^ 64 - 1 }
-    ensures passage { (passage : Passage site.old site.new)
-        × PassesBy passage (S.given source.old) (S.given source.new)
-        (S.to_come source.old) (S.to_come source.new) (K.taken sink.old) (K.taken sink.new)
-        × EndsAt result passage (S.to_come source.new) turns
-        (S.called source.old) (S.called source.new) (K.called sink.old) (K.called sink.new)
-        (S.failed source.old + K.failed sink.old) (S.failed source.new + K.failed sink.new) }
+    ensures passage { let at = moment S.given S.to_come K.taken S.called K.called S.failed K.failed in
+        (passage : Passage site.old site.new)
+        × PassesBy passage (at source.old sink.old) (at source.new sink.new)
+        × EndsAt result passage turns (at source.old sink.old) (at source.new sink.new) }
     ensures reads { S.called source.old ≤ S.called source.new }
     ensures writes { K.called sink.old ≤ K.called sink.new }
     ensures turns { S.called source.new + K.called sink.new

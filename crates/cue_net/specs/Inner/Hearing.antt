@@ -6,8 +6,15 @@ use Rattle.cue_wire.specs.Clients.{Exchange, HasTaken}
 use Rattle.cue_wire.specs.Frames.{HasFault}
 use Rattle.cue_net.specs.declared.halt.Halt.{Halt}
 use Rattle.cue_net.specs.Halts.{IsDevice, IsMemory, IsTurnsUsed}
-use Rattle.cue_net.specs.Talks.{Talk, IsTalk}
+use Rattle.cue_net.specs.Talks.{Talk}
 use Rattle.cue_net.specs.Inner.Turns.{Moves}
+
+-- what a source gave is what was read, and what a sink took is what was written
+pub record Carries (talk : Talk) (given given' to_come to_come' taken taken' : Option (List ℕ))
+    : Type 0 where
+  pub gave : Appends given given' talk.heard
+  pub took : Consumes to_come to_come' talk.heard
+  pub wrote : Appends taken taken' talk.sent
 
 -- the client takes this piece
 abbrev pub Hears : Exchange → Exchange → List ℕ → Type 0
@@ -59,7 +66,7 @@ pub record Asked (result : Result (Unit {0}) Halt) (frames : List ℕ) (old new 
     (left left' failed failed' : ℕ) : Type 0 where
   pub talk : Talk
   pub unsent : List ℕ
-  pub passes : IsTalk talk given given' to_come to_come' taken taken'
+  pub passes : Carries talk given given' to_come to_come' taken taken'
   pub front : frames ≡ talk.sent ++ unsent
   pub all : AllSent result unsent
   pub moves : Moves result left left' (length talk.sent + length talk.heard)

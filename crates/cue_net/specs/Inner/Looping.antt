@@ -9,9 +9,9 @@ use Rattle.cue_wire.specs.Sessions.{Standing, reading, Served}
 use Rattle.cue_net.specs.declared.halt.Halt.{Halt}
 use Rattle.cue_net.specs.Halts.{IsDevice, IsMemory, IsTurnsUsed}
 use Rattle.cue_net.specs.Loops.{bytes_of}
-use Rattle.cue_net.specs.Talks.{Talk, IsTalk}
+use Rattle.cue_net.specs.Talks.{Talk}
 use Rattle.cue_net.specs.Inner.Turns.{Moves}
-use Rattle.cue_net.specs.Inner.Hearing.{Hears, Balks}
+use Rattle.cue_net.specs.Inner.Hearing.{Hears, Balks, Carries}
 
 -- Why bytes are not carried: no turn is left, memory ran out, a device failed, the end was found
 -- with too few of them, or what was read is nothing that the reader takes.
@@ -47,7 +47,7 @@ pub record Brought (result : Result (Unit {0}) Halt) (bytes : List ℕ) (old new
     : Type 0 where
   pub talk : Talk
   pub unsent : List ℕ
-  pub passes : IsTalk talk given given' to_come to_come' taken taken'
+  pub passes : Carries talk given given' to_come to_come' taken taken'
   pub front : bytes ≡ talk.sent ++ unsent
   pub moves : Moves result left left' (length talk.sent + length talk.heard)
   pub ends : BringsAt result unsent talk old new to_come' left' failed failed'
@@ -76,8 +76,8 @@ pub record Exchanged (result : Result (Unit {0}) Halt) (frames : List ℕ) (old 
   pub near : Talk
   pub far : Talk
   pub unsent : List ℕ
-  pub near_passes : IsTalk near given given' to_come to_come' taken taken'
-  pub far_passes : IsTalk far gave gave' coming coming' took took'
+  pub near_passes : Carries near given given' to_come to_come' taken taken'
+  pub far_passes : Carries far gave gave' coming coming' took took'
   pub front : frames ≡ near.sent ++ unsent
   pub moves : Moves result left left' (bytes_of near far)
   pub ends : ExchangesAt result unsent near far old new session session' before after to_come'

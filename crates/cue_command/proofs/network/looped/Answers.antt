@@ -1,5 +1,6 @@
 use Rattle.cue_program.specs.Files.{texts}
 use Rattle.cue_program.specs.Inputs.{inputs_of}
+use Rattle.cue_wire.specs.Connections.{moment}
 use Rattle.cue_command.specs.Networks.{Reach, reach}
 use Rattle.cue_command.proofs.Networks.{talk_answered, talk_stopped}
 use Rattle.cue_command.proofs.network.looped.Goals as goal
@@ -10,8 +11,8 @@ returns-clause-answer g c =
     let n = g.H.Network in
     let source = g.H.Input.Source in
     let sink = g.H.Output.Sink in
-    let reached : Reach = reach (n.opens rt) (n.lets_in rt) (n.reaches rt) (n.joins rt) (n.fails rt) source.given source.to_come sink.taken
-    source.called sink.called source.failed sink.failed in
+    let reached : Reach = reach (n.opens rt) (n.lets_in rt) (n.reaches rt) (n.joins rt) (n.fails rt) (moment source.given source.to_come sink.taken
+    source.called sink.called source.failed sink.failed) in
     talk_answered rt reached.Loops (inputs_of (g.H.Shelf.held rt) (texts c.args.files.now) (g.R.Read.remaining c.args.input.now)) c.in_ok-requests.requests.items
     c.deref.result.now c.loop_for.result c.ended.result c.deref.ensures.value c.in_ok-requests.ensures.requests (c.loop_for.ensures.looped, c.loop_for.ensures.answer) c.ended.ensures.answer
 
@@ -21,7 +22,7 @@ returns-clause-stop g c =
     let n = g.H.Network in
     let source = g.H.Input.Source in
     let sink = g.H.Output.Sink in
-    let reached : Reach = reach (n.opens rt) (n.lets_in rt) (n.reaches rt) (n.joins rt) (n.fails rt) source.given source.to_come sink.taken
-    source.called sink.called source.failed sink.failed in
+    let reached : Reach = reach (n.opens rt) (n.lets_in rt) (n.reaches rt) (n.joins rt) (n.fails rt) (moment source.given source.to_come sink.taken
+    source.called sink.called source.failed sink.failed) in
     talk_stopped rt reached.Loops (inputs_of (g.H.Shelf.held rt) (texts c.args.files.now) (g.R.Read.remaining c.args.input.now)) c.in_ok-requests.requests.items
     c.deref.result.now c.loop_for.result c.ended.result c.deref.ensures.value c.in_ok-requests.ensures.requests (c.loop_for.ensures.looped, c.loop_for.ensures.answer) c.ended.ensures.stop

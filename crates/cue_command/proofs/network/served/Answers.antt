@@ -1,3 +1,4 @@
+use Rattle.cue_wire.specs.Connections.{moment}
 use Rattle.cue_command.specs.Networks.{Reach, reach}
 use Rattle.cue_command.proofs.Networks.{is_served, serving_answered, serving_stopped}
 use Rattle.cue_command.proofs.network.served.Goals as goal
@@ -8,8 +9,8 @@ returns-clause-answer g c known =
     let n = g.H.Network in
     let source = g.H.Input.Source in
     let sink = g.H.Output.Sink in
-    let reached : Reach = reach (n.opens rt) (n.lets_in rt) (n.reaches rt) (n.joins rt) (n.fails rt) source.given source.to_come sink.taken
-    source.called sink.called source.failed sink.failed in
+    let reached : Reach = reach (n.opens rt) (n.lets_in rt) (n.reaches rt) (n.joins rt) (n.fails rt) (moment source.given source.to_come sink.taken
+    source.called sink.called source.failed sink.failed) in
     serving_answered rt (reached.Serves c.args.port c.args.count) c.serve_for.result c.ended.result
     (c.serve_for.ensures.served, is_served c.serve_for.result c.serve_for.ensures.export c.serve_for.ensures.halt) c.ended.ensures.answer
 
@@ -19,7 +20,7 @@ returns-clause-stop g c known =
     let n = g.H.Network in
     let source = g.H.Input.Source in
     let sink = g.H.Output.Sink in
-    let reached : Reach = reach (n.opens rt) (n.lets_in rt) (n.reaches rt) (n.joins rt) (n.fails rt) source.given source.to_come sink.taken
-    source.called sink.called source.failed sink.failed in
+    let reached : Reach = reach (n.opens rt) (n.lets_in rt) (n.reaches rt) (n.joins rt) (n.fails rt) (moment source.given source.to_come sink.taken
+    source.called sink.called source.failed sink.failed) in
     serving_stopped rt (reached.Serves c.args.port c.args.count) c.serve_for.result c.ended.result
     (c.serve_for.ensures.served, is_served c.serve_for.result c.serve_for.ensures.export c.serve_for.ensures.halt) c.ended.ensures.stop

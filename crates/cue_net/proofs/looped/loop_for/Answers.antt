@@ -1,5 +1,6 @@
-use Rattle.std.proofs.Common.{◌+◌, ◌∙◌, inl, inr, refl, sym}
+use Rattle.std.proofs.Common.{◌∙◌, inl, inr, refl, sym}
 use Rattle.std.proofs.lemmas.Bool.{false≢true}
+use Rattle.cue_wire.specs.Connections.{moment}
 use Rattle.cue_net.proofs.Calls.{of_long, of_both}
 use Rattle.cue_net.proofs.looped.loop_for.Goals as goal
 
@@ -36,12 +37,10 @@ pub returns-clause-answer : goal.returns-clause-answer
 returns-clause-answer g c =
     let source = g.H.Input.Source in
     let sink = g.H.Output.Sink in
+    let at = moment source.given source.to_come sink.taken source.called sink.called source.failed sink.failed in
     let near = c.in_ok-near.near in
     let far = c.in_ok-near.far in
     let left = c.converse.new in
     let answer = c.converse.ensures.answer in
-    of_both c.args.inputs.now c.converse.result answer.0 answer.1 (source.to_come left.near.source) (source.to_come left.far.source) 100000
-    (source.called near.source + sink.called near.sink + source.called far.source + sink.called far.sink)
-    (source.called left.near.source + sink.called left.near.sink + source.called left.far.source + sink.called left.far.sink)
-    (source.failed near.source + sink.failed near.sink + source.failed far.source + sink.failed far.sink)
-    (source.failed left.near.source + sink.failed left.near.sink + source.failed left.far.source + sink.failed left.far.sink) answer.4
+    of_both c.args.inputs.now c.converse.result answer.0 answer.1 100000 (record { near = at near.source near.sink; far = at far.source far.sink })
+    (record { near = at left.near.source left.near.sink; far = at left.far.source left.far.sink }) answer.4

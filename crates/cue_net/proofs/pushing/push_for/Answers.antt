@@ -1,5 +1,6 @@
-use Rattle.std.proofs.Common.{◌+◌, ◌∙◌, inl, inr, refl, sym}
+use Rattle.std.proofs.Common.{◌∙◌, inl, inr, refl, sym}
 use Rattle.std.proofs.lemmas.Bool.{false≢true}
+use Rattle.cue_wire.specs.Connections.{moment}
 use Rattle.cue_net.proofs.Calls.{of_long, of_talk}
 use Rattle.cue_net.proofs.pushing.push_for.Goals as goal
 
@@ -21,8 +22,8 @@ pub returns-clause-answer : goal.returns-clause-answer
 returns-clause-answer g c =
     let source = g.H.Input.Source in
     let sink = g.H.Output.Sink in
+    let at = moment source.given source.to_come sink.taken source.called sink.called source.failed sink.failed in
     let end = c.in_ok-end.end in
     let left = c.push.new in
     let answer = c.push.ensures.answer in
-    of_talk c.args.inputs.now c.push.result answer.0 (source.to_come left.source) 100000 (source.called end.source + sink.called end.sink) (source.called left.source + sink.called left.sink)
-    (source.failed end.source + sink.failed end.sink) (source.failed left.source + sink.failed left.sink) answer.2
+    of_talk c.args.inputs.now c.push.result answer.0 100000 (at end.source end.sink) (at left.source left.sink) answer.2

@@ -1,4 +1,5 @@
 use Rattle.cue_replica.specs.Language.{opening}
+use Rattle.cue_wire.specs.Connections.{moment}
 use Rattle.cue_net.specs.Doors.{ServedInTurn, ServesOver}
 use Rattle.cue_net.proofs.serving.serve_from.Given as goal
 
@@ -8,6 +9,6 @@ invariant-loop-served g l =
     let source = g.H.Input.Source in
     let sink = g.H.Output.Sink in
     record {
-      served : ServedInTurn (g.H.Network.lets_in l.rt) (ServesOver source.given source.to_come sink.taken source.called sink.called source.failed sink.failed)
+      served : ServedInTurn (g.H.Network.lets_in l.rt) (ServesOver (moment source.given source.to_come sink.taken source.called sink.called source.failed sink.failed))
           l._served l.fn.door l.door opening l.site;
     }

@@ -2,44 +2,36 @@ use Rattle.std.proofs.Common.{◌≡◌, ◌≢◌, ◌+◌, ◌-◌, ◌∙◌,
 use Rattle.std.specs.Io.KnownBytes.{IsAtEnd}
 use Rattle.cue_lattice.specs.declared.refusal.Kind.TheVariants as kinds
 use Rattle.cue_wire.specs.Frames.{IsUnfinished}
-use Rattle.cue_wire.specs.Connections.{IsStop, IsFault, Passage, PassesBy, EndsAt}
+use Rattle.cue_wire.specs.Connections.{IsStop, IsFault, Passage, PassesBy, EndsAt, failures, moment}
 use Rattle.cue_wire.proofs.Connections.{some_read, begun, went_on, stopped, handed_on, none_read, failed_read, halted, between}
 use Rattle.cue_wire.proofs.connection.serve.Goals as goal
 
 pub loop-left-init : goal.loop-left-init
-loop-left-init g c = record {
-  so_far = begun c.args.site.now c.begun-session.result (g.S.Source.given c.args.source.now) (g.S.Source.to_come c.args.source.now) (g.K.Sink.taken c.args.sink.now)
-      (g.S.Source.called c.args.source.now) (g.K.Sink.called c.args.sink.now) c.begun-session.ensures;
-  turns = refl;
-  reads = omega arith;
-  writes = omega arith;
-  sound = refl;
-  room = refl;
-}
+loop-left-init g c =
+    let source = g.S.Source in
+    let sink = g.K.Sink in
+    let at = moment source.given source.to_come sink.taken source.called sink.called source.failed sink.failed in
+    record {
+      so_far = begun c.args.site.now c.begun-session.result (at c.args.source.now c.args.sink.now) c.begun-session.ensures;
+      turns = refl;
+      reads = omega arith;
+      writes = omega arith;
+      sound = refl;
+      room = refl;
+    }
 
 pub returns-in_default-clause-passage : goal.returns-in_default-clause-passage
 returns-in_default-clause-passage g c =
     let source = g.S.Source in
     let sink = g.K.Sink in
     let s = c.loop-left in
-    let given = source.given c.args.source.now in
-    let to_come = source.to_come c.args.source.now in
-    let taken = sink.taken c.args.sink.now in
-    let given' = source.given s.source in
-    let to_come' = source.to_come s.source in
-    let taken' = sink.taken s.sink in
-    let given'' = source.given c.read.new.self in
-    let to_come'' = source.to_come c.read.new.self in
-    let reads = source.called c.args.source.now in
-    let writes = sink.called c.args.sink.now in
-    let failed = source.failed c.args.source.now + sink.failed c.args.sink.now in
-    let failed' = source.failed c.read.new.self + sink.failed s.sink in
-    halted c.args.site.now s.site s.session given given'' to_come to_come'' taken taken' reads (source.called s.source) writes (sink.called s.sink)
-    (failed_read c.args.site.now s.site s.session given given' given'' to_come to_come' to_come'' taken taken' reads (source.called s.source) writes (sink.called s.sink)
-    s.invariant.so_far c.in_default.ensures.gives c.in_default.ensures.takes)
-    (λ rest unwritten read written. IsStop kinds.Device rest unwritten
-    (IsFault kinds.Device read written c.args.turns reads (source.called c.read.new.self) writes (sink.called s.sink) failed failed')
-    × (kinds.Device ≡ kinds.Memory → read ≢ []))
+    let at = moment source.given source.to_come sink.taken source.called sink.called source.failed sink.failed in
+    let before = at c.args.source.now c.args.sink.now in
+    let now = at s.source s.sink in
+    let after = at c.read.new.self s.sink in
+    halted c.args.site.now s.site s.session before (record now { given = after.given; to_come = after.to_come })
+    (failed_read c.args.site.now s.site s.session before now after.given after.to_come s.invariant.so_far c.in_default.ensures.gives c.in_default.ensures.takes)
+    (λ rest unwritten read written. IsStop kinds.Device rest unwritten (IsFault kinds.Device read written c.args.turns before after) × (kinds.Device ≡ kinds.Memory → read ≢ []))
     (inr (inr (inr (refl, omega (arith, s.invariant.sound, c.in_default.ensures.counts.1)))), λ other nil. cc)
 
 pub returns-then-count-eq0-clause-passage : goal.returns-then-count-eq0-clause-passage
@@ -47,22 +39,15 @@ returns-then-count-eq0-clause-passage g c =
     let source = g.S.Source in
     let sink = g.K.Sink in
     let s = c.loop-left in
-    let given = source.given c.args.source.now in
-    let to_come = source.to_come c.args.source.now in
-    let taken = sink.taken c.args.sink.now in
-    let given' = source.given s.source in
-    let to_come' = source.to_come s.source in
-    let taken' = sink.taken s.sink in
-    let given'' = source.given c.read.new.self in
-    let to_come'' = source.to_come c.read.new.self in
-    let failed = source.failed c.args.source.now + sink.failed c.args.sink.now in
-    let failed' = source.failed c.read.new.self + sink.failed s.sink in
+    let at = moment source.given source.to_come sink.taken source.called sink.called source.failed sink.failed in
+    let before = at c.args.source.now c.args.sink.now in
+    let now = at s.source s.sink in
+    let after = at c.read.new.self s.sink in
     let r = c.in-Ok in
-    let so_far = none_read c.args.site.now s.site s.session given given' given'' to_come to_come' to_come'' taken taken' (take r.count c.read.new.into)
-    (source.called c.args.source.now) (source.called s.source) (sink.called c.args.sink.now) (sink.called s.sink)
-    s.invariant.so_far (ap (λ n. take n c.read.new.into) c.if-count-eq0.true) r.ensures.gives r.ensures.takes.0 in
-    halted c.args.site.now s.site s.session given given'' to_come to_come'' taken taken' 0 0 0 0 so_far
-    (λ rest unwritten read written. IsAtEnd to_come'' × IsUnfinished rest × (unwritten ≡ []) × (IsTrue c.is_between_frames-whole.result ↔ rest ≡ []) × (failed' ≡ failed)) (
+    let so_far = none_read c.args.site.now s.site s.session before now after (take r.count c.read.new.into)
+    s.invariant.so_far (ap (λ n. take n c.read.new.into) c.if-count-eq0.true) r.ensures.gives r.ensures.takes.0 refl in
+    halted c.args.site.now s.site s.session (record before { reads = 0; writes = 0 }) (record after { reads = 0; writes = 0 }) so_far
+    (λ rest unwritten read written. IsAtEnd after.to_come × IsUnfinished rest × (unwritten ≡ []) × (IsTrue c.is_between_frames-whole.result ↔ rest ≡ []) × (failures after ≡ failures before)) (
       r.ensures.takes.1 c.if-count-eq0.true (omega (arith, r.ensures.room, s.invariant.room)),
       so_far.unfinished,
       refl,
@@ -77,13 +62,11 @@ loop-left-preserved g c =
     let s = c.loop-left in
     let r = c.in-Ok in
     let p = c.serve_piece in
+    let at = moment source.given source.to_come sink.taken source.called sink.called source.failed sink.failed in
     record {
       so_far = went_on c.args.site.now s.site p.new.site s.session p.new.session
-          (source.given c.args.source.now) (source.given s.source) (source.given c.read.new.self)
-          (source.to_come c.args.source.now) (source.to_come s.source) (source.to_come c.read.new.self)
-          (sink.taken c.args.sink.now) (sink.taken s.sink) (sink.taken p.new.sink)
+          (at c.args.source.now c.args.sink.now) (at s.source s.sink) (at c.read.new.self p.new.sink)
           p.result c.in_ok-serve_piece.field-0 (take r.count c.read.new.into)
-          (source.called c.args.source.now) (source.called s.source) (source.called c.read.new.self) (sink.called c.args.sink.now) (sink.called s.sink) (sink.called p.new.sink)
           (s.left - 1) p.new.left (sink.failed s.sink) (sink.failed p.new.sink)
           s.invariant.so_far r.ensures.gives r.ensures.takes.0 c.in_ok-serve_piece.was
           (some_read r.count c.read.new.into r.ensures.bound c.if-count-eq0.false) r.ensures.counts.0 p.ensures.turns c.in_ok-serve_piece.ensures.sound
@@ -103,24 +86,14 @@ returns-in_err-serve_piece-clause-passage g c =
     let r = c.in-Ok in
     let p = c.serve_piece in
     let site = c.args.site.now in
-    let given = source.given c.args.source.now in
-    let to_come = source.to_come c.args.source.now in
-    let taken = sink.taken c.args.sink.now in
-    let given'' = source.given c.read.new.self in
-    let to_come'' = source.to_come c.read.new.self in
-    let taken'' = sink.taken p.new.sink in
-    let reads = source.called c.args.source.now in
-    let reads' = source.called c.read.new.self in
-    let writes = sink.called c.args.sink.now in
-    let writes' = sink.called p.new.sink in
-    let failed = source.failed c.args.source.now + sink.failed c.args.sink.now in
-    let failed' = source.failed c.read.new.self + sink.failed p.new.sink in
-    handed_on (λ result. (passage : Passage site p.new.site) × PassesBy passage given given'' to_come to_come'' taken taken''
-    × EndsAt result passage to_come'' c.args.turns reads reads' writes writes' failed failed') c.from_residual.result c.in_err-serve_piece.field-0.0 c.from_residual.ensures.1
-    (stopped site s.site p.new.site s.session p.new.session given (source.given s.source) given'' to_come (source.to_come s.source) to_come''
-    taken (sink.taken s.sink) taken'' p.result c.in_err-serve_piece.field-0.0 (take r.count c.read.new.into)
-    c.args.turns reads (source.called s.source) reads' writes (sink.called s.sink) writes' (s.left - 1) p.new.left (sink.failed s.sink) (sink.failed p.new.sink)
-    failed failed' s.invariant.so_far r.ensures.gives r.ensures.takes.0
+    let at = moment source.given source.to_come sink.taken source.called sink.called source.failed sink.failed in
+    let before = at c.args.source.now c.args.sink.now in
+    let after = at c.read.new.self p.new.sink in
+    handed_on (λ result. (passage : Passage site p.new.site) × PassesBy passage before after × EndsAt result passage c.args.turns before after)
+    c.from_residual.result c.in_err-serve_piece.field-0.0 c.from_residual.ensures.1
+    (stopped site s.site p.new.site s.session p.new.session before (at s.source s.sink) after p.result c.in_err-serve_piece.field-0.0 (take r.count c.read.new.into)
+    c.args.turns (s.left - 1) p.new.left (sink.failed s.sink) (sink.failed p.new.sink)
+    s.invariant.so_far r.ensures.gives r.ensures.takes.0
     c.in_err-serve_piece.was (some_read r.count c.read.new.into r.ensures.bound c.if-count-eq0.false) r.ensures.counts.0 p.ensures.turns
     (p.ensures.served s.invariant.so_far.kept s.invariant.so_far.keeps s.invariant.so_far.unfinished)
     (λ none. omega (arith, none, s.invariant.turns, r.ensures.counts.0, p.ensures.turns, c.loop-left-test.true))
@@ -131,13 +104,9 @@ returns-clause-passage g c =
     let source = g.S.Source in
     let sink = g.K.Sink in
     let s = c.loop-left in
-    let reads = source.called c.args.source.now in
-    let writes = sink.called c.args.sink.now in
-    let failed = source.failed c.args.source.now + sink.failed c.args.sink.now in
-    let failed' = source.failed s.source + sink.failed s.sink in
-    halted c.args.site.now s.site s.session (source.given c.args.source.now) (source.given s.source) (source.to_come c.args.source.now) (source.to_come s.source)
-    (sink.taken c.args.sink.now) (sink.taken s.sink) reads (source.called s.source) writes (sink.called s.sink) s.invariant.so_far
-    (λ rest unwritten read written. IsStop kinds.TurnsUsed rest unwritten
-    (IsFault kinds.TurnsUsed read written c.args.turns reads (source.called s.source) writes (sink.called s.sink) failed failed')
-    × (kinds.TurnsUsed ≡ kinds.Memory → read ≢ []))
+    let at = moment source.given source.to_come sink.taken source.called sink.called source.failed sink.failed in
+    let before = at c.args.source.now c.args.sink.now in
+    let after = at s.source s.sink in
+    halted c.args.site.now s.site s.session before after s.invariant.so_far
+    (λ rest unwritten read written. IsStop kinds.TurnsUsed rest unwritten (IsFault kinds.TurnsUsed read written c.args.turns before after) × (kinds.TurnsUsed ≡ kinds.Memory → read ≢ []))
     (inr (inr (inl (refl, omega (arith, s.invariant.turns, c.loop-left-test.false), s.invariant.so_far.pulled, s.invariant.so_far.pushed))), λ other nil. cc)
