@@ -131,17 +131,6 @@ fn field(alloc: Global, levels: usize, number: u32) -> Result<Path, Memory> {
     Ok(path(alloc, steps))
 }
 
-/// The rows with one more behind them, or none where no table has rows that begin so.
-pub fn append<R: Narrow>(
-    alloc: Global,
-    rows: Draft<R>,
-    place: &Place,
-    row: &R,
-) -> Result<Draft<R>, Memory> {
-    let more = rows.append(place, row.copy(alloc)?)?;
-    Ok(more.unwrap_or(Draft::new(alloc)))
-}
-
 /// The table of so many fields with equal rows, whose parent is so many levels down.
 fn table<R: Narrow>(
     alloc: Global,
@@ -152,15 +141,15 @@ fn table<R: Narrow>(
     row: &R,
 ) -> Result<Table<R>, Memory> {
     let mut made = Draft::new(alloc);
-    made = append(alloc, made, &Place::root(alloc), root)?;
+    let _is_kept = made.append(&Place::root(alloc), root.copy(alloc)?)?;
     for level in 0..levels {
         let steps = parent(alloc, level.saturating_add(1))?;
         let place = Place::of_path(alloc, path(alloc, steps))?;
-        made = append(alloc, made, &place, outer)?;
+        let _is_kept = made.append(&place, outer.copy(alloc)?)?;
     }
     for number in 0..fields {
         let place = Place::of_path(alloc, field(alloc, levels, number)?)?;
-        made = append(alloc, made, &place, row)?;
+        let _is_kept = made.append(&place, row.copy(alloc)?)?;
     }
     Ok(made.finish()?.unwrap_or(Table::new(alloc)))
 }

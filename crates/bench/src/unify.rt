@@ -8,7 +8,7 @@
 //! once). With no rounds the tables are only made. SHAPE is `wide` (all rows under one parent) or
 //! `deep` (all rows under one parent 61 levels down).
 use crate::fault::{Fault, number};
-use crate::tables::{append, integer_row};
+use crate::tables::integer_row;
 use anyhow::Error;
 use cue_lattice::{Memory, Narrow, Text};
 use cue_table::{Draft, Path, Place, Step, Table};
@@ -89,7 +89,7 @@ fn table<R: Narrow>(
     let mut number = fields.first;
     for _ in 0..fields.count {
         let place = Place::of_path(alloc, path(alloc, shape, number)?)?;
-        made = append(alloc, made, &place, row)?;
+        let _is_kept = made.append(&place, row.copy(alloc)?)?;
         number = number.saturating_add(fields.apart);
     }
     Ok(made.finish()?.unwrap_or(Table::new(alloc)))

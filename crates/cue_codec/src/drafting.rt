@@ -55,19 +55,15 @@ impl Model for Drafting {
 }
 
 /// Adds a row behind those of a draft, which has none any more where it is refused.
-fn append(alloc: Global, draft: &mut Draft<Row>, place: &Place, row: Row) -> Result<(), Kind>
+fn append(draft: &mut Draft<Row>, place: &Place, row: Row) -> Result<(), Kind>
     ensures ok { IfOk result (λ none. draft.new ≡ draft.old ++ (place.now, row) ∷ []) }
     ensures refused { IfErr result (λ kind. IsRefused kind
         (BeginsNoTable Refuses IsRow (draft.old ++ (place.now, row) ∷ []))) }
     ensures err { OnErr result (draft.new ≡ []) }
 {
-    let rows = mem::replace(draft, Draft::new(alloc));
-    match rows.append(place, row) {
-        Ok(Some(more)) => {
-            *draft = more;
-            Ok(())
-        }
-        Ok(None) => Err(Kind::NotState),
+    match draft.append(place, row) {
+        Ok(true) => Ok(()),
+        Ok(false) => Err(Kind::NotState),
         Err(_) => Err(Kind::Memory),
     }
 }
@@ -124,7 +120,7 @@ impl Drafting {
         let Ok(()) = self.indexes.reserve(1) else {
             return Err(Kind::Memory);
         };
-        if let Err(kind) = append(self.alloc, &mut self.draft, &place, row) {
+        if let Err(kind) = append(&mut self.draft, &place, row) {
             // The draft is gone, so all rows are missing.
             self.left = self.count;
             self.indexes.clear();

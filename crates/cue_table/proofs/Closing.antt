@@ -8,7 +8,7 @@ use Rattle.cue_lattice.specs.Path.{Step, step_cmp}
 use Rattle.cue_table.specs.Depth.{tree_depth, children_depth}
 use Rattle.cue_table.specs.Form.{IsTaken, IsTree, AreBranches}
 use Rattle.cue_table.specs.Slots.{Slot, at, from, slot_cmp, Place, behind, rows_of, rows_below}
-use Rattle.cue_table.specs.Tree.{Tree, node, Children, none, child, no_rest, onward, empty, below, rest_of}
+use Rattle.cue_table.specs.Tree.{Tree, node, Children, none, child, no_rest, onward, below, rest_of}
 use Rattle.cue_table.specs.Inner.Join.{join}
 use Rattle.cue_table.specs.Inner.Loose.{IsLoose, AreLoose, IsBehind}
 use Rattle.cue_table.specs.Inner.Opened.{hung, closed, IsBehindAll, IsOpen}

@@ -1,24 +1,24 @@
 -- Open nodes as the program keeps them, and what becomes of them where a row comes.
-use Rattle.std.proofs.Common.{◌≡◌, ◌+◌, ◌<◌, ◌≤◌, ◌^◌, max, ℕ, zero, suc, List, [], ◌∷◌, ◌++◌, append_assoc, map, length, take, drop, get_or, Option, Some, None, refl, sym, ap, subst, ◌∙◌, inl, inr, ⊎_elim, drop_of_length-le, arith}
+use Rattle.std.proofs.Common.{◌≡◌, ◌+◌, ◌<◌, ◌≤◌, max, ℕ, zero, suc, List, [], ◌∷◌, ◌++◌, append_assoc, map, length, take, drop, get_or, Option, Some, None, Result, Ok, Err, IfOk, refl, sym, ap, subst, ◌∙◌, inl, inr, ⊎_elim, drop_of_length-le, arith}
 use Rattle.std.specs.Bool.{◌==◌}
-use Rattle.std.specs.Prelude.{Bool, Box, ◌⊎◌, false, is_some, true}
+use Rattle.std.specs.Prelude.{Bool, Box, ◌⊎◌, false, is_some, slice_set, true}
 use Rattle.std.specs.Option.{option_map}
 use Rattle.std.specs.List.{AllByRecursion}
 use Rattle.std.specs.Global.{Global}
 use Rattle.std.specs.declared.cmp.Ordering.{Ordering}
 use Rattle.std.specs.declared.cmp.Ordering.TheVariants.{Less, Equal, Greater}
 use Rattle.std.proofs.Math.Seq.{take_all}
-use Rattle.std.proofs.lemmas.List.{append-nil, length-append, length-map, map-append}
+use Rattle.std.proofs.lemmas.List.{append-nil, length-append, length-map, length-take, map-append}
 use Rattle.cue_lattice.specs.Limits.{step_limit}
 use Rattle.cue_lattice.specs.Path.{Step}
 use Rattle.cue_row.specs.Steps.{step_of}
 use Rattle.cue_table.specs.Depth.{tree_depth}
 use Rattle.cue_table.specs.Form.{AreBranches, IsTaken, IsTree}
 use Rattle.cue_table.specs.Inner.Child.{Child}
-use Rattle.cue_table.specs.Inner.Drafts.{opened_along, staying, staying_by}
+use Rattle.cue_table.specs.Inner.Drafts.{opened_along, staying, staying_by, Becomes, GoesOn, LeadsOn}
 use Rattle.cue_table.specs.Inner.Form.{Rise}
 use Rattle.cue_table.specs.Inner.Join.{join}
-use Rattle.cue_table.specs.Inner.Opened.{closed, hung, IsBehindAll, IsDraft, IsOpen}
+use Rattle.cue_table.specs.Inner.Opened.{closed, hung, IsDraft, IsOpen}
 use Rattle.cue_table.specs.Inner.View.{below_in, branches, rest_in, tree_of}
 use Rattle.cue_table.specs.Slots.{Slot, at, from, slot_cmp, Place, behind, rows_of}
 use Rattle.cue_table.specs.Tree.{Tree, node, Children, none, child, no_rest, onward, empty, below, rest_of, taken}
@@ -77,12 +77,16 @@ beyond_it xs i x ys e = let next : suc i ≡ i + 1 = omega arith in next_on xs i
 module _ {R : Type 0} where
   -- one more node is open
   pub opened_one :
-      {S : Type 0} (slots : List S) (i : ℕ) (f : S → Slot) (item other : S) (above more all : List (Tree R × Slot)) (tree next : Tree R) → i < length slots → item ≡ get_or slots i item → other ≡ item
-      → more ≡ above ++ (tree, f other) ∷ [] → next ≡ empty → above ++ opened_along tree (map f (drop i slots)) ≡ all → more ++ opened_along next (map f (drop (i + 1) slots)) ≡ all
-  opened_one slots i f item other above more all tree next l e same pushed new h =
+      {S : Type 0} (slots : List S) (i : ℕ) (f : S → Slot) (item other : S) (above more all : List (Tree R × Slot)) (next : Tree R) → i < length slots → item ≡ get_or slots i item → other ≡ item
+      → more ≡ above ++ (next, f other) ∷ [] → next ≡ empty → above ++ opened_along empty (map f (drop i slots)) ≡ all → more ++ opened_along empty (map f (drop (i + 1) slots)) ≡ all
+  opened_one slots i f item other above more all next l e same pushed new h =
       let way : Place = map f (drop (i + 1) slots) in
-      (λ k. pushed k ++ opened_along (new k) way) ∙ append_assoc above ((tree, f other) ∷ []) (opened_along empty way)
-      ∙ ap (λ x. above ++ opened_along tree (f x ∷ way)) same ∙ ap (λ xs. above ++ opened_along tree (map f xs)) (sym (at_hand slots i item l e)) ∙ h
+      ap (λ xs. xs ++ opened_along empty way) pushed ∙ append_assoc above ((next, f other) ∷ []) (opened_along empty way)
+      ∙ (λ k. above ++ (new k, f (same k)) ∷ opened_along empty way) ∙ ap (λ xs. above ++ opened_along empty (map f xs)) (sym (at_hand slots i item l e)) ∙ h
+
+  -- those along a way, of which the first one was there
+  pub opened_further : (front mid all : List (Tree R × Slot)) (tree : Tree R) (slot : Slot) (way : Place) → mid ≡ front ++ (tree, slot) ∷ [] → all ≡ mid ++ opened_along empty way → all ≡ front ++ opened_along tree (slot ∷ way)
+  opened_further front mid all tree slot way e f = f ∙ ap (λ xs. xs ++ opened_along empty way) e ∙ append_assoc front ((tree, slot) ∷ []) (opened_along empty way)
 
 -- ---- how many nodes stay open
 mapped_suc : (o : Option ℕ) (n : ℕ) → option_map suc o ≡ Some (suc n) → o ≡ Some n
@@ -183,6 +187,20 @@ module _ {R : Type 0} where
   closed_form P [] last h = h
   closed_form P (o ∷ above) last h = closed_form P above last (hung_form P o.0 o.1 (closed above last) h)
 
+  -- and where one node less is closed
+  less_form : (P : R → Type 0) (n : ℕ) (above : List (Tree R × Slot)) (last : Tree R) → IsTree P (closed (drop n above) last) → IsTree P (closed (drop (suc n) above) last)
+  less_form P zero [] last h = h
+  less_form P (suc n) [] last h = h
+  less_form P zero (o ∷ above) last h = hung_form P o.0 o.1 (closed above last) h
+  less_form P (suc n) (o ∷ above) last h = less_form P n above last h
+
+  pub one_less_form : (P : R → Type 0) (n : ℕ) (above : List (Tree R × Slot)) (last : Tree R) → IsTree P (closed (drop n above) last) → IsTree P (closed (drop (n + 1) above) last)
+  one_less_form P n above last h = let next : suc n ≡ n + 1 = omega arith in subst (λ k. IsTree P (closed (drop k above) last)) next (less_form P n above last h)
+
+  closed_taken : (above : List (Tree R × Slot)) (last : Tree R) → IsTaken last → IsTaken (closed above last)
+  closed_taken [] last t = t
+  closed_taken (o ∷ above) last t = hung_taken o.0 o.1 (closed above last)
+
   module _ (P : R → Type 0) where
     all_empty : (place : Place) → AllByRecursion (IsOpen P) (opened_along empty place)
     all_empty [] = tt
@@ -280,6 +298,26 @@ module _ {R : Type 0} where
           (λ i. rows_of (closed (nodes_are i) (end_is i))) ∙ appended_rows above last place row n d s alone whole,
         )
 
+    none_taken : (n : ℕ) (above : List (Tree R × Slot)) → above ≡ [] → above ≡ take n above
+    none_taken zero above e = e
+    none_taken (suc n) [] e = refl
+    none_taken (suc n) (o ∷ above) e = absurd cc
+
+    none_dropped : (n : ℕ) (above : List (Tree R × Slot)) → above ≡ [] → above ≡ drop n above
+    none_dropped zero above e = refl
+    none_dropped (suc n) [] e = refl
+    none_dropped (suc n) (o ∷ above) e = absurd cc
+
+    -- the first row, at the root
+    pub appended_first :
+        (above left : List (Tree R × Slot)) (last : Tree R) (place : Place) (row : R) (n : ℕ) (end : Tree R) → IsDraft P above last → staying above place ≡ Some n → left ≡ take (n + 1) above → drop n place ≡ [] → (drop n place ≡ [] → IsTaken last → ⊥)
+        → end ≡ node (Some row) none no_rest → length place ≤ step_limit → P row → GoesOn P above last place row left end true
+    appended_first above left last place row n end d stay left_is e not end_is few kept =
+        let first : above ≡ [] = ⊎_elim (λ h. h.0) (λ t. absurd (not e t)) d.taken in
+        let here : last ≡ closed (drop n above) last = ap (λ xs. closed xs last) (sym first ∙ none_dropped n above first) in
+        let same : left ≡ above = left_is ∙ sym (none_taken (n + 1) above first) in
+        appended above last place row n above left last end [] d stay (none_taken n above first) here (sym e) (same ∙ sym (append-nil above)) end_is d.form not few kept
+
 -- ---- nodes that are closed one after the other
 take_front : {X : Type 0} (n : ℕ) (xs ys : List X) → n ≤ length xs → take n (xs ++ ys) ≡ take n xs
 take_front zero xs ys h = refl
@@ -292,15 +330,14 @@ drop_front (suc n) [] ys h = absurd (omega (arith, h))
 drop_front (suc n) (x ∷ xs) ys h = drop_front n xs ys (omega arith)
 
 -- so far open nodes were closed, down to a node, of which so many are to be left
-pub record Closes {R : Type 0} (P : R → Type 0) (n : ℕ) (above : List (Tree R × Slot)) (last : Tree R) (left : List (Tree R × Slot)) (tree : Tree R) : Type 0 where
-  pub few : n ≤ length left
+pub record IsClosing {R : Type 0} (P : R → Type 0) (n : ℕ) (above : List (Tree R × Slot)) (last : Tree R) (left : List (Tree R × Slot)) (tree : Tree R) : Type 0 where
   pub front : take n left ≡ take n above
   pub same : closed (drop n left) tree ≡ closed (drop n above) last
   pub opened : AllByRecursion (IsOpen P) left
   pub form : IsTree P tree
   pub taken : (left ≡ []) ⊎ IsTaken tree
 
-module _ {R : Type 0} (P : R → Type 0) (n : ℕ) (above : List (Tree R × Slot)) (last : Tree R) (left : List (Tree R × Slot)) (tree : Tree R) (c : Closes P n above last left tree) where
+module _ {R : Type 0} (P : R → Type 0) (n : ℕ) (above : List (Tree R × Slot)) (last : Tree R) (left : List (Tree R × Slot)) (tree : Tree R) (c : IsClosing P n above last left tree) where
   -- none is to be closed any more
   pub closes_left : length left ≤ n → left ≡ take n above
   closes_left h = sym (take_all n left h) ∙ c.front
@@ -325,9 +362,8 @@ module _ {R : Type 0} (P : R → Type 0) (n : ℕ) (above : List (Tree R × Slot
     pub closes_taken : IsTaken tree
     closes_taken = ⊎_elim (λ none. let no : 0 < length left = omega (arith, more) in absurd (omega (arith, no, ap length none))) (λ t. t) c.taken
 
-    pub closes_more : (next : Tree R) → next ≡ hung o.0 o.1 tree → IsTree P next → Closes P n above last front next
+    pub closes_more : (next : Tree R) → next ≡ hung o.0 o.1 tree → IsTree P next → IsClosing P n above last front next
     closes_more next f form = record {
-      few = few;
       front = sym (take_front n front (o ∷ []) few) ∙ ap (take n) (sym e) ∙ c.front;
       same = ap (closed (drop n front)) f ∙ same;
       opened = open_front P front (o ∷ []) opened_two;
@@ -338,6 +374,84 @@ module _ {R : Type 0} (P : R → Type 0) (n : ℕ) (above : List (Tree R × Slot
     -- where it is in no form, all that is closed is in none
     pub closes_none : (IsTree P (hung o.0 o.1 tree) → ⊥) → IsTree P (closed (drop n above) last) → ⊥
     closes_none not h = not (closed_form P (drop n front) (hung o.0 o.1 tree) (subst (IsTree P) (sym same) h))
+
+-- ---- a node that goes on
+module _ {X : Type 0} where
+  pub one_left : (n : ℕ) (xs : List X) (x : X) → length xs ≤ n + 1 → n < length xs → x ≡ get_or xs n x → drop n xs ≡ x ∷ []
+  one_left n [] x l m e = absurd (omega (arith, m))
+  one_left zero (y ∷ []) x l m e = ap (λ z. z ∷ []) (sym e)
+  one_left zero (y ∷ z ∷ xs) x l m e = absurd (omega (arith, l))
+  one_left (suc n) (y ∷ xs) x l m e = one_left n xs x (omega (arith, l)) (omega (arith, m)) e
+
+  pub last_set : (n : ℕ) (xs : List X) (x : X) → length xs ≤ n + 1 → n < length xs → slice_set xs n x ≡ take n xs ++ x ∷ []
+  last_set n [] x l m = absurd (omega (arith, m))
+  last_set zero (y ∷ []) x l m = refl
+  last_set zero (y ∷ z ∷ xs) x l m = absurd (omega (arith, l))
+  last_set (suc n) (y ∷ xs) x l m = ap (λ zs. y ∷ zs) (last_set n xs x (omega (arith, l)) (omega (arith, m)))
+
+module _ {R : Type 0} (P : R → Type 0) (n : ℕ) (above : List (Tree R × Slot)) (branch : Tree R) (opened : AllByRecursion (IsOpen P) above) (few : length above ≤ n + 1) where
+  -- one that is open
+  module _ (o : Tree R × Slot) (l : n < length above) (e : o ≡ get_or above n o) where
+    pub led_open : IsOpen P o
+    led_open = (subst (AllByRecursion (IsOpen P)) (one_left n above o few l e) (open_back P (take n above) (drop n above) (subst (AllByRecursion (IsOpen P)) (sym (take_drop n above)) opened))).0
+
+    pub led_taken : (above ≡ []) ⊎ IsTaken branch → IsTaken branch
+    led_taken = ⊎_elim (λ none. let no : length above ≡ 0 = ap length none in absurd (omega (arith, l, no))) (λ t. t)
+
+    pub led_here : hung o.0 o.1 branch ≡ closed (drop n above) branch
+    led_here = ap (λ xs. closed xs branch) (sym (one_left n above o few l e))
+
+    pub led_turned : (new : List (Tree R × Slot)) (slot : Slot) (tree : Tree R) → new ≡ slice_set above n (tree, slot) → Becomes P (hung o.0 o.1 branch) tree true → LeadsOn P (take n above) (closed (drop n above) branch) slot new true
+    led_turned new slot tree f g =
+        (f ∙ last_set n above (tree, slot) few l ∙ ap (λ t. take n above ++ (t, slot) ∷ []) (g.0 ∙ led_here), subst (IsTree P) led_here g.1)
+
+    pub led_by : {E : Type 0} (result : Result Bool E) (slot : Slot) (tree : Tree R) → IfOk result (Becomes P (hung o.0 o.1 branch) tree) → IfOk result (LeadsOn P (take n above) (closed (drop n above) branch) slot (slice_set above n (tree, slot)))
+    led_by (Ok true) slot tree h = led_turned (slice_set above n (tree, slot)) slot tree refl h
+    led_by (Ok false) slot tree h = subst (λ t. IsTree P t → ⊥) led_here h
+    led_by (Err e) slot tree h = tt
+
+  -- or none
+  pub led_end : (new : List (Tree R × Slot)) (slot other : Slot) → length above ≤ n → new ≡ above ++ (branch, other) ∷ [] → other ≡ slot → IsTree P branch → LeadsOn P (take n above) (closed (drop n above) branch) slot new true
+  led_end new slot other l e is form =
+      let here : branch ≡ closed (drop n above) branch = ap (λ xs. closed xs branch) (sym (drop_of_length-le above l)) in
+      (e ∙ ap (λ xs. xs ++ (branch, other) ∷ []) (sym (take_all n above l)) ∙ (λ i. take n above ++ (here i, is i) ∷ []), subst (IsTree P) here form)
+
+-- ---- a node that is closed up to another one
+module _ {R : Type 0} where
+  front_left : (n : ℕ) (above : List (Tree R × Slot)) → take n (take (suc n) above) ≡ take n above
+  front_left zero above = refl
+  front_left (suc n) [] = refl
+  front_left (suc n) (o ∷ above) = ap (λ os. o ∷ os) (front_left n above)
+
+  closed_up : (n : ℕ) (above : List (Tree R × Slot)) (last : Tree R) → closed (drop n (take (suc n) above)) (closed (drop (suc n) above) last) ≡ closed (drop n above) last
+  closed_up zero [] last = refl
+  closed_up zero (o ∷ above) last = refl
+  closed_up (suc n) [] last = refl
+  closed_up (suc n) (o ∷ above) last = closed_up n above last
+
+  none_left : (n : ℕ) → let nothing : List (Tree R × Slot) = [] in take n nothing ≡ []
+  none_left zero = refl
+  none_left (suc n) = refl
+
+  pub left_taken : (n : ℕ) (above left : List (Tree R × Slot)) (last tree : Tree R) → left ≡ take n above → tree ≡ closed (drop n above) last → (above ≡ []) ⊎ IsTaken last → (left ≡ []) ⊎ IsTaken tree
+  left_taken n above left last tree e f = ⊎_elim (λ none. inl (e ∙ ap (take n) none ∙ none_left n)) (λ t. inr (subst IsTaken (sym f) (closed_taken (drop n above) last t)))
+
+  pub left_opened : (P : R → Type 0) (n : ℕ) (above left : List (Tree R × Slot)) → left ≡ take n above → AllByRecursion (IsOpen P) above → AllByRecursion (IsOpen P) left
+  left_opened P n above left e h = subst (AllByRecursion (IsOpen P)) (sym e) (open_front P (take n above) (drop n above) (subst (AllByRecursion (IsOpen P)) (sym (take_drop n above)) h))
+
+  pub left_few : (n : ℕ) (above left : List (Tree R × Slot)) → left ≡ take n above → length left ≤ n
+  left_few n above left e = omega (arith, ap length e, length-take n above)
+
+  -- all of it, where it goes on below so many
+  pub led_up : (P : R → Type 0) (n : ℕ) (above left new : List (Tree R × Slot)) (last tree : Tree R) (slot : Slot) (b : Bool) → left ≡ take (n + 1) above → tree ≡ closed (drop (n + 1) above) last → LeadsOn P (take n left) (closed (drop n left) tree) slot new b
+      → LeadsOn P (take n above) (closed (drop n above) last) slot new b
+  led_up P n above left new last tree slot b e f =
+      let next : n + 1 ≡ suc n = omega arith in
+      let these : left ≡ take (suc n) above = e ∙ ap (λ k. take k above) next in
+      let here : tree ≡ closed (drop (suc n) above) last = f ∙ ap (λ k. closed (drop k above) last) next in
+      let front : take n left ≡ take n above = ap (take n) these ∙ front_left n above in
+      let all : closed (drop n left) tree ≡ closed (drop n above) last = (λ i. closed (drop n (these i)) (here i)) ∙ closed_up n above last in
+      λ h. subst (λ xs. LeadsOn P xs (closed (drop n above) last) slot new b) front (subst (λ t. LeadsOn P (take n left) t slot new b) all h)
 
 -- how many nodes stay open, as it is seen
 pub stays_seen : {R : Type 0} (above seen : List (Tree R × Slot)) (place way : Place) (o : Option ℕ) → seen ≡ above → way ≡ place → o ≡ staying seen way → staying above place ≡ o
@@ -358,6 +472,10 @@ not_taken f None (node None (child step tree children) rest) e h t = absurd cc
 not_taken f None (node None none (onward n tree)) e h t = absurd cc
 not_taken f None (node None none no_rest) e h t = t
 
+pub no_items : {X : Type 0} (xs : List X) → length xs ≡ 0 → xs ≡ []
+no_items [] e = refl
+no_items (x ∷ xs) e = absurd (omega (arith, e))
+
 pub no_slots : {X Y : Type 0} (f : X → Y) (xs : List X) (ys : List Y) (is_none : Bool) → map f xs ≡ ys → is_none ≡ (length xs == 0) → is_none ≡ true → ys ≡ []
 no_slots f [] ys is_none e h k = sym e
 no_slots f (x ∷ xs) ys is_none e h k = absurd (grind (arith, h, k))
@@ -365,3 +483,9 @@ no_slots f (x ∷ xs) ys is_none e h k = absurd (grind (arith, h, k))
 pub some_slots : {X Y : Type 0} (f : X → Y) (xs : List X) (ys : List Y) (is_none : Bool) → map f xs ≡ ys → is_none ≡ (length xs == 0) → is_none ≡ false → ys ≡ [] → ⊥
 some_slots f [] ys is_none e h k l = absurd cc
 some_slots f (x ∷ xs) ys is_none e h k l = absurd cc
+
+-- no row, as at the beginning
+pub none_drafted : {R : Type 0} (P : R → Type 0) (above : List (Tree R × Slot)) (last : Tree R) → above ≡ [] → last ≡ empty → IsDraft P above last × (rows_of (closed above last) ≡ [])
+none_drafted P above last e f =
+    let draft : IsDraft P [] empty = record { opened = tt; form = (tt, tt, tt); leaf = (refl, refl); taken = inl (refl, refl); depth = omega arith } in
+    (subst (λ xs. IsDraft P xs last) (sym e) (subst (IsDraft P []) (sym f) draft), λ i. rows_of (closed (e i) (f i)))

@@ -26,6 +26,7 @@ pub mod Depth
 pub mod Exact
 pub mod Finding
 pub mod Gaps
+pub mod GoingOn
 pub mod Joined
 pub mod Lattice
 pub mod Listed

@@ -1,27 +1,20 @@
 -- Whether a rest begins where it does in the form of a table.
-use Rattle.std.proofs.Common.{◌≡◌, ◌↔◌, ◌<◌, ◌≤◌, ◌+◌, ◌^◌, ◌++◌, ℕ, zero, suc, List, [], ◌∷◌, length, Option, Some, None, refl, sym, ap, subst, ◌∙◌, arith}
-use Rattle.std.specs.Prelude.{Box, IsTrue, Bool, true, false, not}
-use Rattle.std.specs.Global.{Global}
+use Rattle.std.proofs.Common.{◌≡◌, ◌↔◌, ◌<◌, ◌≤◌, ◌+◌, ◌++◌, ℕ, zero, suc, List, [], ◌∷◌, Some, None, refl, sym, ap, subst, ◌∙◌, arith}
+use Rattle.std.specs.Prelude.{IsTrue, Bool, true, false, not}
 use Rattle.cue_lattice.specs.Path.{label, index}
 use Rattle.cue_row.specs.Steps.{step_of}
 use Rattle.cue_table.specs.Inner.Child.{Child}
-use Rattle.cue_table.specs.declared.node.Node.TheInside.{Inside}
-use Rattle.cue_table.specs.declared.node.Onward.{Onward}
-use Rattle.cue_table.specs.declared.node.Run.{Run}
-use Rattle.cue_table.specs.Size.{tree_size}
-use Rattle.cue_table.specs.Form.{IsTree, AreBranches, AreWithin, Differs}
+use Rattle.cue_table.specs.Form.{AreWithin, Differs}
 use Rattle.cue_table.specs.Inner.Form.{Rise}
 use Rattle.cue_table.specs.Spans.{alike}
-use Rattle.cue_table.specs.Tree.{Tree, node, Children, none, child, below, find, behind_last}
+use Rattle.cue_table.specs.Tree.{Tree, Children, none, child, find, behind_last}
 use Rattle.cue_table.specs.Inner.Join.{join}
-use Rattle.cue_table.specs.Inner.Loose.{IsBehind, IsLastElement, IsLoose}
-use Rattle.cue_table.specs.Inner.View.{below_in, branches, last_of, more_of, rest_in, run_branches, tree_of}
+use Rattle.cue_table.specs.Inner.Loose.{IsLastElement}
+use Rattle.cue_table.specs.Inner.View.{branches}
 use Rattle.cue_table.proofs.Branches.{find_first, find_past}
 use Rattle.cue_table.proofs.Exact.{none_within, within_last}
-use Rattle.cue_table.proofs.Joined.{below_front, greater_number, join_assoc, join_none, number_less}
-use Rattle.cue_table.proofs.Loosened.{loose_rise}
+use Rattle.cue_table.proofs.Joined.{below_front, greater_number, number_less}
 use Rattle.cue_table.proofs.Nodes.{behind_label}
-use Rattle.cue_table.proofs.RunPlaces.{runs_join}
 
 pub not_true : (b : Bool) → IsTrue (not b) → IsTrue b → ⊥
 not_true true h k = cc

@@ -15,11 +15,10 @@ use Rattle.cue_table.specs.Tree.{Tree, node, Children, none, child, below, find,
 use Rattle.cue_table.specs.Form.{IsBelowAll, IsTaken, IsTree, AreBranches}
 use Rattle.cue_table.specs.Inner.Cursors.{behind}
 use Rattle.cue_table.specs.Inner.Join.{join}
-use Rattle.cue_table.specs.Inner.Loose.{IsLoose, AreLoose}
 use Rattle.cue_table.specs.Inner.View.{below_in, branches, more_of, rest_in, run_branches, run_spans, runs_in, spans_in, tree_of}
 use Rattle.cue_table.proofs.Branches.{find_fixed}
 use Rattle.cue_table.proofs.Joined.{alike_join, find_earlier, find_later, join_none}
-use Rattle.cue_table.proofs.Spanned.{left_size, spread_in}
+use Rattle.cue_table.proofs.Spanned.{spread_in}
 
 module _ {R : Type 0} where
   spanned_join : (span : Span) (tree : Tree R) (a b : Children R) → join (spanned span tree a) b ≡ spanned span tree (join a b)

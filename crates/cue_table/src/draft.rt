@@ -1,16 +1,19 @@
 //! Rows in the order of their places, of which a table is made.
-ghost use Rattle.std.specs.Prelude.{◌≡◌, ◌∷◌, ◌++◌, [], IfOk, IfSome, IfNone};
-ghost use Rattle.cue_table.specs.Form.{IsTable};
-ghost use Rattle.cue_table.specs.RowList.{BeginsNoTable};
+ghost use Rattle.std.specs.Prelude.{◌≡◌, [], IfOk, IfSome, IfNone, OnErr};
+ghost use Rattle.cue_table.specs.Form.{IsKept, IsTable};
+ghost use Rattle.cue_table.specs.Inner.Drafts.{GoesOn};
+ghost use Rattle.cue_table.specs.Inner.Opened.{IsDraft};
+ghost use Rattle.cue_table.specs.RowList.{Appends};
 ghost use Rattle.cue_table.specs.Slots.{rows_of};
 ghost use Rattle.cue_table.specs.Tree.{Tree};
 
 use crate::node::Node;
-use crate::open::{Open, close, open_along, staying};
+use crate::open::{Open, close, lead_on, open_along, staying};
 use crate::{Place, Table};
 use cue_lattice::{Memory, Narrow};
 use std::alloc::Global;
 use std::marker::Model;
+use std::mem;
 
 /// Rows in the order of their places, of which a table is made. Contracts see the list of them.
 #[derive(Drop)]
@@ -52,39 +55,29 @@ impl<R: Narrow> Draft<R> {
         }
     }
 
-    /// The rows with one more behind all others. There is no draft where no table has rows that
-    /// begin so: where another row stands at the place or behind it, where the row refuses nothing,
-    /// and where a rest that is done with begins otherwise than in a table. However many rows there
+    /// Puts a row behind all others, or says that no table has rows that begin so, and keeps none of
+    /// them: where another row stands at the place or behind it, where the row refuses nothing, and
+    /// where a rest that is done with begins otherwise than in a table. However many rows there
     /// are, this goes over the nodes of the last place and of this one alone, and compares such a
-    /// rest with the element before it.
-    pub fn append(self, place: &Place, row: R) -> Result<Option<Draft<R>>, Memory>
-        ensures some { IfOk result (λ found. IfSome found
-            (λ draft. draft ≡ self ++ (place.now, row) ∷ [])) }
-        ensures none { IfOk result (λ found. IfNone found
-            (BeginsNoTable R.refuses R.is_value (self ++ (place.now, row) ∷ []))) }
+    /// rest with the element before it. Where memory runs out, none of them is kept either.
+    pub fn append(&mut self, place: &Place, row: R) -> Result<bool, Memory>
+        ensures appends { IfOk result
+            (Appends R.refuses R.is_value self.old place.now row self.new) }
+        ensures err { OnErr result (self.new ≡ []) }
     {
-        let refuses_nothing = row.is_free();
-        if refuses_nothing {
-            return Ok(None);
+        match go_on(self.alloc, &mut self.above, &mut self.last, place, row) {
+            Ok(true) => Ok(true),
+            Ok(false) => {
+                self.above.clear();
+                self.last = Node::new(self.alloc);
+                Ok(false)
+            }
+            Err(memory) => {
+                self.above.clear();
+                self.last = Node::new(self.alloc);
+                Err(memory)
+            }
         }
-        row.known();
-        let Draft {
-            alloc,
-            mut above,
-            last,
-        } = self;
-        let Some((count, beyond)) = staying(&above, place.slots()) else {
-            return Ok(None);
-        };
-        if beyond.is_empty() && last.taken().is_some() {
-            return Ok(None);
-        }
-        let Some(node) = close(alloc, &mut above, last, count)? else {
-            return Ok(None);
-        };
-        open_along(alloc, &mut above, node, beyond)?;
-        let last = Node::of_row(alloc, row);
-        Ok(Some(Draft { alloc, above, last }))
     }
 
     /// The table that has just these rows, if there is one: a rest that begins before an element of
@@ -98,11 +91,49 @@ impl<R: Narrow> Draft<R> {
         let Draft {
             alloc,
             mut above,
-            last,
+            mut last,
         } = self;
-        let Some(root) = close(alloc, &mut above, last, 0)? else {
+        if !close(alloc, &mut above, &mut last, 0)? {
             return Ok(None);
-        };
-        Ok(Some(Table::of_root(alloc, root)))
+        }
+        Ok(Some(Table::of_root(alloc, last)))
     }
+}
+
+/// Lets the nodes of a draft go on to a row behind all others, or says that no table has rows that
+/// begin so.
+fn go_on<R: Narrow>(
+    alloc: Global,
+    above: &mut Vec<Open<R>>,
+    last: &mut Node<R>,
+    place: &Place,
+    row: R,
+) -> Result<bool, Memory>
+    requires { IsDraft (IsKept R.refuses R.is_value) above.old.items last.old }
+    ensures { IfOk result (GoesOn (IsKept R.refuses R.is_value) above.old.items last.old place.now
+        row above.new.items last.new) }
+{
+    let refuses_nothing = row.is_free();
+    if refuses_nothing {
+        return Ok(false);
+    }
+    row.known();
+    let Some((count, way)) = staying(above, place.slots()) else {
+        return Ok(false);
+    };
+    if way.is_empty() && last.taken().is_some() {
+        return Ok(false);
+    }
+    if !close(alloc, above, last, count + 1)? {
+        return Ok(false);
+    }
+    let branch = mem::replace(last, Node::of_row(alloc, row));
+    let Some((slot, further)) = way.split_first() else {
+        return Ok(true);
+    };
+    if !lead_on(alloc, above, count, slot, branch)? {
+        return Ok(false);
+    }
+    open_along(alloc, above, further)?;
+    Ok(true)
 }

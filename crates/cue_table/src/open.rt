@@ -1,13 +1,12 @@
 //! The nodes on the way to the last row of a draft, each apart from the one below it.
-ghost use Rattle.std.specs.Prelude.{◌≡◌, ◌⊎◌, ◌≤◌, ◌++◌, [], drop, length, map, take};
-ghost use Rattle.std.specs.Prelude.{IfNone, IfOk, IfSome};
+ghost use Rattle.std.specs.Prelude.{◌≡◌, ◌⊎◌, ◌≤◌, ◌+◌, ◌++◌, [], drop, length, map, take};
+ghost use Rattle.std.specs.Prelude.{IfOk, IfSome};
 ghost use Rattle.std.specs.List.{AllByRecursion};
 ghost use Rattle.std.specs.Option.{option_map};
-ghost use Rattle.cue_row.specs.Steps.{step_of};
 ghost use Rattle.cue_table.specs.Form.{IsKept, IsTaken, IsTree};
-ghost use Rattle.cue_table.specs.Slots.{at, from};
 ghost use Rattle.cue_table.specs.SlotsOfCode.{slot_of};
-ghost use Rattle.cue_table.specs.Inner.Drafts.{opened_along, staying};
+ghost use Rattle.cue_table.specs.Tree.{empty};
+ghost use Rattle.cue_table.specs.Inner.Drafts.{opened_along, staying, Becomes, Closes, LeadsOn};
 ghost use Rattle.cue_table.specs.Inner.Opened.{closed, hung, IsOpen};
 
 use crate::Slot;
@@ -15,10 +14,10 @@ use crate::begins::begins_right;
 use crate::child::Child;
 use crate::node::{INDEXES, Node, Onward};
 use cue_lattice::{Memory, Narrow};
-use cue_row::Step;
 use std::alloc::Global;
 use std::cmp::Ordering;
 use std::marker::Model;
+use std::mem;
 
 /// A node with the slot at which it goes on, where nothing hangs yet. Contracts see both.
 #[derive(Drop)]
@@ -66,120 +65,102 @@ pub(crate) fn staying<'a, R: Narrow>(
     Some((above.len(), left))
 }
 
-/// Closes nodes, the last one first, until so many are left: each is hung into the one above it.
-/// There is no node where a rest begins otherwise than in a table.
+/// Closes nodes, the last one first, until so many are left: each is hung into the one above it. It
+/// says false, where a rest begins otherwise than in a table.
 pub(crate) fn close<R: Narrow>(
     alloc: Global,
     above: &mut Vec<Open<R>>,
-    last: Node<R>,
+    last: &mut Node<R>,
     count: usize,
-) -> Result<Option<Node<R>>, Memory>
+) -> Result<bool, Memory>
     requires opened { AllByRecursion (IsOpen (IsKept R.refuses R.is_value)) above.old.items }
-    requires form { IsTree (IsKept R.refuses R.is_value) last }
-    requires taken { (above.old.items ≡ []) ⊎ IsTaken last }
-    requires few { count ≤ length above.old.items }
-    ensures left { IfOk result (λ found. IfSome found
-        (λ node. above.new.items ≡ take count above.old.items)) }
-    ensures closed { IfOk result (λ found. IfSome found
-        (λ node. node ≡ closed (drop count above.old.items) last)) }
-    ensures form { IfOk result (λ found. IfSome found
-        (IsTree (IsKept R.refuses R.is_value))) }
-    ensures none { IfOk result (λ found. IfNone found
-        (¬ IsTree (IsKept R.refuses R.is_value) (closed (drop count above.old.items) last))) }
+    requires form { IsTree (IsKept R.refuses R.is_value) last.old }
+    requires taken { (above.old.items ≡ []) ⊎ IsTaken last.old }
+    ensures { IfOk result (Closes (IsKept R.refuses R.is_value) above.old.items last.old count
+        above.new.items last.new) }
 {
-    let mut last = last;
     while above.len() > count {
         let Some(parent) = above.pop() else {
             break;
         };
-        let Some(node) = hung_in(alloc, parent, last)? else {
-            return Ok(None);
-        };
-        last = node;
+        let Open { node, slot } = parent;
+        let branch = mem::replace(last, node);
+        if !hang(alloc, last, slot, branch)? {
+            return Ok(false);
+        }
     }
-    Ok(Some(last))
+    Ok(true)
 }
 
-/// Hangs a branch in where a node goes on. There is no node where a rest begins otherwise than in a
-/// table.
-fn hung_in<R: Narrow>(
+/// Has a closed node go on at a slot: the node of this number, into which it is hung then, or itself
+/// where no node has it. It says false, where a rest begins otherwise than in a table.
+pub(crate) fn lead_on<R: Narrow>(
     alloc: Global,
-    parent: Open<R>,
+    above: &mut Vec<Open<R>>,
+    number: usize,
+    slot: &Slot,
     branch: Node<R>,
-) -> Result<Option<Node<R>>, Memory>
-    requires opened { IsOpen (IsKept R.refuses R.is_value) parent }
+) -> Result<bool, Memory>
+    requires opened { AllByRecursion (IsOpen (IsKept R.refuses R.is_value)) above.old.items }
+    requires form { IsTree (IsKept R.refuses R.is_value) branch }
+    requires taken { (above.old.items ≡ []) ⊎ IsTaken branch }
+    requires few { length above.old.items ≤ number + 1 }
+    ensures { IfOk result (LeadsOn (IsKept R.refuses R.is_value) (take number above.old.items)
+        (closed (drop number above.old.items) branch) (slot_of slot.now) above.new.items) }
+{
+    let next = slot.copy(alloc)?;
+    if let Some(parent) = above.get_mut(number) {
+        let held = mem::replace(&mut parent.slot, next);
+        return hang(alloc, &mut parent.node, held, branch);
+    }
+    above.push(Open {
+        node: branch,
+        slot: next,
+    })?;
+    Ok(true)
+}
+
+/// Hangs a branch in at a slot behind all others. It says false, where a rest begins otherwise than
+/// in a table.
+fn hang<R: Narrow>(
+    alloc: Global,
+    node: &mut Node<R>,
+    slot: Slot,
+    branch: Node<R>,
+) -> Result<bool, Memory>
+    requires opened { IsOpen (IsKept R.refuses R.is_value) (node.old, slot_of slot) }
     requires form { IsTree (IsKept R.refuses R.is_value) branch }
     requires taken { IsTaken branch }
-    ensures hung { IfOk result (λ found. IfSome found (λ node. node ≡ hung parent.0 parent.1 branch)) }
-    ensures form { IfOk result (λ found. IfSome found (IsTree (IsKept R.refuses R.is_value))) }
-    ensures none { IfOk result (λ found. IfNone found
-        (¬ IsTree (IsKept R.refuses R.is_value) (hung parent.0 parent.1 branch))) }
+    ensures { IfOk result
+        (Becomes (IsKept R.refuses R.is_value) (hung node.old (slot_of slot) branch) node.new) }
 {
-    let Open { node, slot } = parent;
     match slot {
-        Slot::At(step) => Ok(Some(with_branch(alloc, node, step, branch)?)),
-        Slot::From(number) => with_rest(alloc, node, number, branch),
+        Slot::At(step) => node.children.push(Child::new(alloc, step, branch)?)?,
+        Slot::From(number) => {
+            if number > INDEXES || !begins_right(&node.children, number, &branch) {
+                return Ok(false);
+            }
+            node.rest = Some(Box::new(alloc, Onward::alone(alloc, number, branch))?);
+        }
     }
+    Ok(true)
 }
 
-/// The node with a branch behind its others.
-fn with_branch<R: Narrow>(
-    alloc: Global,
-    node: Node<R>,
-    step: Step,
-    branch: Node<R>,
-) -> Result<Node<R>, Memory>
-    requires opened { IsOpen (IsKept R.refuses R.is_value) (node, at (step_of step)) }
-    requires form { IsTree (IsKept R.refuses R.is_value) branch }
-    requires taken { IsTaken branch }
-    ensures hung { IfOk result (λ all. all ≡ hung node (at (step_of step)) branch) }
-    ensures form { IfOk result (IsTree (IsKept R.refuses R.is_value)) }
-{
-    let mut all = node;
-    all.children.push(Child::new(alloc, step, branch)?)?;
-    Ok(all)
-}
-
-/// The node with a rest, if it begins where it does in a table.
-fn with_rest<R: Narrow>(
-    alloc: Global,
-    node: Node<R>,
-    number: u64,
-    branch: Node<R>,
-) -> Result<Option<Node<R>>, Memory>
-    requires opened { IsOpen (IsKept R.refuses R.is_value) (node, from number) }
-    requires form { IsTree (IsKept R.refuses R.is_value) branch }
-    requires taken { IsTaken branch }
-    ensures hung { IfOk result (λ found. IfSome found
-        (λ all. all ≡ hung node (from number) branch)) }
-    ensures form { IfOk result (λ found. IfSome found (IsTree (IsKept R.refuses R.is_value))) }
-    ensures none { IfOk result (λ found. IfNone found
-        (¬ IsTree (IsKept R.refuses R.is_value) (hung node (from number) branch))) }
-{
-    if number > INDEXES || !begins_right(&node.children, number, &branch) {
-        return Ok(None);
-    }
-    let mut all = node;
-    all.rest = Some(Box::new(alloc, Onward::alone(alloc, number, branch))?);
-    Ok(Some(all))
-}
-
-/// Opens a node at each slot of a way, the last one at the first of them. Where no slot leads on,
-/// it is let go.
+/// Opens an empty node at each slot.
 pub(crate) fn open_along<R: Narrow>(
     alloc: Global,
     above: &mut Vec<Open<R>>,
-    last: Node<R>,
     slots: &[Slot],
 ) -> Result<(), Memory>
     ensures { IfOk result (λ none. above.new.items
-        ≡ above.old.items ++ opened_along last (map slot_of slots.now)) }
+        ≡ above.old.items ++ opened_along empty (map slot_of slots.now)) }
 {
-    let mut node = last;
     for slot in slots {
         let slot = slot.copy(alloc)?;
-        above.push(Open { node, slot })?;
-        node = Node::new(alloc);
+        above.push(Open {
+            node: Node::new(alloc),
+            slot,
+        })?;
     }
     Ok(())
 }

@@ -181,27 +181,25 @@ fn agree_at<R: Narrow>(tree: &Table<R>, plain: &Plain<R>, rows: &[Entry<R>]) -> 
     true
 }
 
-/// The draft with a row behind its others, or nothing where no table has rows that begin so.
+/// Puts a row behind those of a draft, or tells that it has no place there.
 pub fn append<R: Narrow>(
     alloc: Global,
-    draft: Draft<R>,
+    draft: &mut Draft<R>,
     path: Made<Path>,
     row: &R,
-) -> Made<Option<Draft<R>>> {
+) -> Made<bool> {
     let place = Place::of_path(alloc, path?)?;
     draft.append(&place, row.copy(alloc)?)
 }
 
-/// The draft of these rows, one after the other, or nothing where no table has rows that begin so.
-fn append_all<R: Narrow>(alloc: Global, rows: &[Entry<R>]) -> Made<Option<Draft<R>>> {
-    let mut draft = Draft::new(alloc);
+/// Puts rows behind those of a draft, or tells that one has no place there.
+fn append_all<R: Narrow>(alloc: Global, draft: &mut Draft<R>, rows: &[Entry<R>]) -> Made<bool> {
     for entry in rows {
-        let Some(more) = append(alloc, draft, entry.path.copy(alloc), &entry.row)? else {
-            return Ok(None);
-        };
-        draft = more;
+        if !append(alloc, draft, entry.path.copy(alloc), &entry.row)? {
+            return Ok(false);
+        }
     }
-    Ok(Some(draft))
+    Ok(true)
 }
 
 /// Whether the draft is finished as this tree.
@@ -214,10 +212,9 @@ fn is_finished<R: Narrow>(draft: Draft<R>, tree: &Table<R>) -> Made<bool> {
 
 /// Whether the rows of the plain list, one after the other, make the tree.
 fn is_drafted<R: Narrow>(alloc: Global, tree: &Table<R>, plain: &Plain<R>) -> Made<bool> {
-    match append_all(alloc, &plain.entries)? {
-        None => Ok(false),
-        Some(draft) => is_finished(draft, tree),
-    }
+    let mut draft = Draft::new(alloc);
+    let appended = append_all(alloc, &mut draft, &plain.entries)?;
+    Ok(is_finished(draft, tree)? && appended)
 }
 
 /// Whether these rows make the same table both ways, which a copy is equal to, and which is made

@@ -26,27 +26,26 @@ fn at(alloc: Global, number: u32) -> Made<Path> {
     Ok(Path::new(steps).unwrap_or(Path::root(alloc)))
 }
 
-/// The draft with the row at every so many-th place, from the first to the last.
-fn append_in_order<R: Narrow>(alloc: Global, row: &R, every: usize) -> Made<Option<Draft<R>>> {
-    let mut draft = Draft::new(alloc);
+/// Puts the row at every so many-th place into a draft, from the first to the last.
+fn append_in_order<R: Narrow>(
+    alloc: Global,
+    draft: &mut Draft<R>,
+    row: &R,
+    every: usize,
+) -> Made<()> {
     for number in 0..COUNT {
         if every != 0 && number as usize % every == 0 {
-            let Some(more) = append(alloc, draft, at(alloc, number), row)? else {
-                return Ok(None);
-            };
-            draft = more;
+            append(alloc, draft, at(alloc, number), row)?;
         }
     }
-    Ok(Some(draft))
+    Ok(())
 }
 
 /// The table with the row at every so many-th place, put in from the first to the last.
 fn in_order<R: Narrow>(alloc: Global, row: &R, every: usize) -> Made<Table<R>> {
-    let made = match append_in_order(alloc, row, every)? {
-        None => None,
-        Some(draft) => draft.finish()?,
-    };
-    Ok(made.unwrap_or(Table::new(alloc)))
+    let mut draft = Draft::new(alloc);
+    append_in_order(alloc, &mut draft, row, every)?;
+    Ok(draft.finish()?.unwrap_or(Table::new(alloc)))
 }
 
 /// Puts the row in, in mixed order, from one turn up to another one.

@@ -1,10 +1,13 @@
 -- What becomes of the open nodes of a draft where a row comes.
-use Rattle.std.specs.Prelude.{ℕ, suc, List, [], ◌∷◌, Option, Some, None}
+use Rattle.std.specs.Prelude.{◌≡◌, ◌≢◌, ℕ, suc, List, [], ◌∷◌, ◌++◌, Option, Some, None}
+use Rattle.std.specs.Prelude.{Bool, false, true, drop, take}
 use Rattle.std.specs.Option.{option_map}
 use Rattle.std.specs.declared.cmp.Ordering.{Ordering}
 use Rattle.std.specs.declared.cmp.Ordering.TheVariants.{Less, Equal, Greater}
-use Rattle.cue_table.specs.Slots.{Slot, at, from, slot_cmp, Place}
+use Rattle.cue_table.specs.Form.{IsTree}
+use Rattle.cue_table.specs.Slots.{Slot, at, from, slot_cmp, Place, rows_of}
 use Rattle.cue_table.specs.Tree.{Tree, empty}
+use Rattle.cue_table.specs.Inner.Opened.{closed, IsDraft}
 
 -- how many of them stay open, where so many of those below do, by how the slot of the first one
 -- compares with that of the place
@@ -25,3 +28,31 @@ staying (o ∷ above) (slot ∷ place) =
 abbrev pub opened_along : {R : Type 0} → Tree R → Place → List (Tree R × Slot)
 opened_along last [] = []
 opened_along last (slot ∷ place) = (last, slot) ∷ opened_along empty place
+
+-- a node becomes this one, which is in form, or this one is in none
+abbrev pub Becomes : {R : Type 0} → (R → Type 0) → Tree R → Tree R → Bool → Type 0
+Becomes P tree new true = (new ≡ tree) × IsTree P tree
+Becomes P tree new false = ¬ IsTree P tree
+
+-- the nodes behind so many are closed into the last one
+abbrev pub Closes : {R : Type 0} → (R → Type 0) → List (Tree R × Slot) → Tree R → ℕ
+    → List (Tree R × Slot) → Tree R → Bool → Type 0
+Closes P above last n above' last' true =
+    (above' ≡ take n above) × Becomes P (closed (drop n above) last) last' true
+Closes P above last n above' last' false = Becomes P (closed (drop n above) last) last' false
+
+-- a node in form is open behind others, or it is in none
+abbrev pub LeadsOn : {R : Type 0} → (R → Type 0) → List (Tree R × Slot) → Tree R → Slot
+    → List (Tree R × Slot) → Bool → Type 0
+LeadsOn P front tree slot above' true = (above' ≡ front ++ (tree, slot) ∷ []) × IsTree P tree
+LeadsOn P front tree slot above' false = ¬ IsTree P tree
+
+-- the nodes become those of a draft with one more row, or no tree's rows begin so
+abbrev pub GoesOn : {R : Type 0} → (R → Type 0) → List (Tree R × Slot) → Tree R → Place → R
+    → List (Tree R × Slot) → Tree R → Bool → Type 0
+GoesOn P above last place row above' last' true =
+    IsDraft P above' last'
+    × (rows_of (closed above' last') ≡ rows_of (closed above last) ++ (place, row) ∷ [])
+GoesOn {R} P above last place row above' last' false =
+    (tree : Tree R) (more : List (Place × R)) → IsTree P tree
+    → rows_of tree ≢ (rows_of (closed above last) ++ (place, row) ∷ []) ++ more

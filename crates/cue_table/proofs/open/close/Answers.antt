@@ -1,19 +1,54 @@
-use Rattle.std.proofs.Common.{◌≡◌, subst, arith}
-use Rattle.std.specs.Prelude.{IfNone, IfSome}
-use Rattle.cue_table.specs.Form.{IsKept, IsTree}
-use Rattle.cue_table.specs.Inner.Opened.{hung}
-use Rattle.cue_table.proofs.Drafting.{closes_more, closes_none}
+use Rattle.std.proofs.Common.{◌≤◌, ◌<◌, false, length, true, sym, ap, subst, ◌∙◌, arith}
+use Rattle.cue_table.specs.Form.{IsKept, IsTaken, IsTree}
+use Rattle.cue_table.specs.Inner.Drafts.{Becomes}
+use Rattle.cue_table.specs.Inner.Opened.{hung, IsOpen}
+use Rattle.cue_table.specs.SlotsOfCode.{slot_of}
+use Rattle.cue_table.proofs.Drafting.{closes_left, closes_more, closes_none, closes_open, closes_same, closes_taken}
 use Rattle.cue_table.proofs.open.close.Goals as goal
 
-pub returns-in_default-2-clause-none : goal.returns-in_default-2-clause-none
-returns-in_default-2-clause-none g c =
+pub hang-requires-clause-opened : goal.hang-requires-clause-opened
+hang-requires-clause-opened g c =
     let P = IsKept g.R.Narrow.refuses g.R.Narrow.is_value in
-    let not = subst (λ found. IfNone found (IsTree P (hung c.in-Some.parent.0 c.in-Some.parent.1 c.loop-alloc.last) → ⊥)) c.in_default-2.is c.in_ok-node.ensures.none in
-    closes_none P c.args.count c.args.above.now.items c.args.last c.loop-alloc.above.items c.loop-alloc.last c.loop-alloc.invariant c.pop.new.self.items c.in-Some.parent c.in-Some.ensures.items (omega (arith, c.len.ensures, c.loop-alloc-test.true)) not
+    let l = c.loop-alloc in
+    let more : c.args.count < length l.above.items = omega (arith, c.len.ensures, c.loop-alloc-test.true) in
+    subst (λ t. IsOpen P (t, slot_of c.parent.inside.slot)) (sym c.replace-branch.ensures.after)
+    (subst (IsOpen P) (sym c.parent.view_is) (closes_open P c.args.count c.args.above.now.items c.args.last.now l.above.items l.last l.invariant c.pop.new.self.items c.in-Some.parent c.in-Some.ensures.items more))
+
+pub hang-requires-clause-form : goal.hang-requires-clause-form
+hang-requires-clause-form g c =
+    let P = IsKept g.R.Narrow.refuses g.R.Narrow.is_value in
+    subst (IsTree P) (sym c.replace-branch.ensures.value) c.loop-alloc.invariant.form
+
+pub hang-requires-clause-taken : goal.hang-requires-clause-taken
+hang-requires-clause-taken g c =
+    let P = IsKept g.R.Narrow.refuses g.R.Narrow.is_value in
+    let l = c.loop-alloc in
+    let more : c.args.count < length l.above.items = omega (arith, c.len.ensures, c.loop-alloc-test.true) in
+    subst IsTaken (sym c.replace-branch.ensures.value) (closes_taken P c.args.count c.args.above.now.items c.args.last.now l.above.items l.last l.invariant c.pop.new.self.items c.in-Some.parent c.in-Some.ensures.items more)
+
+pub returns-then-not-branch : goal.returns-then-not-branch
+returns-then-not-branch g c =
+    let P = IsKept g.R.Narrow.refuses g.R.Narrow.is_value in
+    let l = c.loop-alloc in
+    let more : c.args.count < length l.above.items = omega (arith, c.len.ensures, c.loop-alloc-test.true) in
+    let parent = c.in-Some.parent in
+    let whole = (λ i. hung (c.replace-branch.ensures.after i) (slot_of c.parent.inside.slot) (c.replace-branch.ensures.value i)) ∙ ap (λ o. hung o.0 o.1 l.last) c.parent.view_is in
+    let not = subst (λ t. Becomes P t c.hang.new.node false) whole (subst (Becomes P (hung c.replace-branch.new.dest (slot_of c.parent.inside.slot) c.replace-branch.result) c.hang.new.node) c.if-not-branch.true c.in_ok-hang.ensures) in
+    closes_none P c.args.count c.args.above.now.items c.args.last.now l.above.items l.last l.invariant c.pop.new.self.items parent c.in-Some.ensures.items more not
+
+pub returns-after-loop-alloc : goal.returns-after-loop-alloc
+returns-after-loop-alloc g c =
+    let P = IsKept g.R.Narrow.refuses g.R.Narrow.is_value in
+    let l = c.loop-alloc in
+    let few : length l.above.items ≤ c.args.count = omega (arith, c.len.ensures, c.loop-alloc-test.false) in
+    let same = closes_same P c.args.count c.args.above.now.items c.args.last.now l.above.items l.last l.invariant few in
+    (closes_left P c.args.count c.args.above.now.items c.args.last.now l.above.items l.last l.invariant few, (same, subst (IsTree P) same l.invariant.form))
 
 pub loop-alloc-preserved : goal.loop-alloc-preserved
 loop-alloc-preserved g c =
     let P = IsKept g.R.Narrow.refuses g.R.Narrow.is_value in
-    let same = subst (λ found. IfSome found (λ node. node ≡ hung c.in-Some.parent.0 c.in-Some.parent.1 c.loop-alloc.last)) c.in-Some-2.is c.in_ok-node.ensures.hung in
-    let form = subst (λ found. IfSome found (IsTree P)) c.in-Some-2.is c.in_ok-node.ensures.form in
-    closes_more P c.args.count c.args.above.now.items c.args.last c.loop-alloc.above.items c.loop-alloc.last c.loop-alloc.invariant c.pop.new.self.items c.in-Some.parent c.in-Some.ensures.items (omega (arith, c.len.ensures, c.loop-alloc-test.true)) c.in-Some-2.node same form
+    let l = c.loop-alloc in
+    let more : c.args.count < length l.above.items = omega (arith, c.len.ensures, c.loop-alloc-test.true) in
+    let whole = (λ i. hung (c.replace-branch.ensures.after i) (slot_of c.parent.inside.slot) (c.replace-branch.ensures.value i)) ∙ ap (λ o. hung o.0 o.1 l.last) c.parent.view_is in
+    let is = subst (λ t. Becomes P t c.hang.new.node true) whole (subst (Becomes P (hung c.replace-branch.new.dest (slot_of c.parent.inside.slot) c.replace-branch.result) c.hang.new.node) c.if-not-branch.false c.in_ok-hang.ensures) in
+    closes_more P c.args.count c.args.above.now.items c.args.last.now l.above.items l.last l.invariant c.pop.new.self.items c.in-Some.parent c.in-Some.ensures.items more c.hang.new.node is.0 (subst (IsTree P) (sym is.0) is.1)

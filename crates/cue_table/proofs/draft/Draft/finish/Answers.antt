@@ -1,13 +1,55 @@
-use Rattle.std.proofs.Common.{◌∙◌, sym, subst}
-use Rattle.std.specs.Prelude.{IfNone}
+use Rattle.std.proofs.Common.{◌≤◌, ◌∙◌, refl, sym, ap, subst}
+use Rattle.cue_lattice.specs.Limits.{step_limit}
+use Rattle.cue_table.specs.Depth.{tree_depth}
 use Rattle.cue_table.specs.Form.{IsKept, IsTree}
-use Rattle.cue_table.specs.Inner.Opened.{closed}
+use Rattle.cue_table.specs.Inner.Drafts.{Closes}
+use Rattle.cue_table.specs.Slots.{rows_of}
 use Rattle.cue_table.proofs.Beyond.{unfinished}
 use Rattle.cue_table.proofs.draft.Draft.finish.Goals as goal
 
-pub returns-in_default-clause-none : goal.returns-in_default-clause-none
-returns-in_default-clause-none g c =
+pub returns-then-not-branch-clause-none : goal.returns-then-not-branch-clause-none
+returns-then-not-branch-clause-none g c =
     let P = IsKept g.R.Narrow.refuses g.R.Narrow.is_value in
     let above = c.self.inside.above.items in
-    let not = subst (λ found. IfNone found (IsTree P (closed above c.self.inside.last) → ⊥)) c.in_default.is c.in_ok-root.ensures.none in
-    λ table k e. unfinished P above c.self.inside.last c.self.invariant not table k (e ∙ sym c.self.view_is)
+    let last = c.self.inside.last in
+    let not = subst (Closes P above last 0 c.close.new.above.items c.close.new.last) c.if-not-branch.true c.in_ok-close.ensures in
+    λ table k e. unfinished P above last c.self.invariant not table k (e ∙ sym c.self.view_is)
+
+pub same-last : goal.same-last
+same-last g c = refl
+
+pub of_root-requires-clause-form : goal.of_root-requires-clause-form
+of_root-requires-clause-form g c =
+    let P = IsKept g.R.Narrow.refuses g.R.Narrow.is_value in
+    let above = c.self.inside.above.items in
+    let last = c.self.inside.last in
+    let closes = subst (Closes P above last 0 c.close.new.above.items c.close.new.last) c.if-not-branch.false c.in_ok-close.ensures in
+    let is = closes.1 in
+    subst (IsTree P) (sym is.0) is.1
+
+pub of_root-requires-clause-depth : goal.of_root-requires-clause-depth
+of_root-requires-clause-depth g c =
+    let P = IsKept g.R.Narrow.refuses g.R.Narrow.is_value in
+    let above = c.self.inside.above.items in
+    let last = c.self.inside.last in
+    let closes = subst (Closes P above last 0 c.close.new.above.items c.close.new.last) c.if-not-branch.false c.in_ok-close.ensures in
+    let is = closes.1 in
+    subst (λ t. tree_depth t ≤ step_limit) (sym is.0) c.self.invariant.depth
+
+pub returns-clause-form : goal.returns-clause-form
+returns-clause-form g c =
+    let P = IsKept g.R.Narrow.refuses g.R.Narrow.is_value in
+    let above = c.self.inside.above.items in
+    let last = c.self.inside.last in
+    let closes = subst (Closes P above last 0 c.close.new.above.items c.close.new.last) c.if-not-branch.false c.in_ok-close.ensures in
+    let is = closes.1 in
+    subst (IsTree P) (sym is.0 ∙ sym c.of_root.ensures) is.1
+
+pub returns-clause-rows : goal.returns-clause-rows
+returns-clause-rows g c =
+    let P = IsKept g.R.Narrow.refuses g.R.Narrow.is_value in
+    let above = c.self.inside.above.items in
+    let last = c.self.inside.last in
+    let closes = subst (Closes P above last 0 c.close.new.above.items c.close.new.last) c.if-not-branch.false c.in_ok-close.ensures in
+    let is = closes.1 in
+    ap rows_of (c.of_root.ensures ∙ is.0) ∙ c.self.view_is
