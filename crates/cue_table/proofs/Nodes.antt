@@ -1,6 +1,6 @@
 -- What the fields of a node say of its tree.
 use Rattle.std.proofs.Common.{◌≡◌, ◌<◌, ◌≤◌, ◌+◌, ◌++◌, rules, ℕ, zero, suc, Bool, true, false, nat_eq, List, [], ◌∷◌, length, get_or, drop, Option, Some, None, refl, sym, ap, subst, ◌∙◌, arith}
-use Rattle.std.specs.List.Sorted.{IsPartitionedBy}
+use Rattle.std.specs.List.Sorted.{IsPartitionedBy, IsPartitionPoint}
 use Rattle.std.specs.declared.cmp.Ordering.TheVariants.{Less}
 use Rattle.std.specs.Ordering.{nat_cmp}
 use Rattle.cue_lattice.specs.Path as paths
@@ -8,12 +8,12 @@ use Rattle.cue_lattice.specs.Path.{label, index, step_cmp}
 use Rattle.cue_row.specs.declared.step.Step.{Step}
 use Rattle.cue_row.specs.declared.step.Step.TheVariants.{Label, Index}
 use Rattle.cue_row.specs.Steps.{step_of}
-use Rattle.cue_table.specs.Tree.{Tree, node, Children, none, child, taken, labels_of}
+use Rattle.cue_table.specs.Tree.{Tree, node, Children, none, child, taken, labels_of, items_of}
 use Rattle.std.specs.Global.{Global}
 use Rattle.std.specs.Prelude.{Box}
 use Rattle.cue_table.specs.declared.node.Onward.{Onward}
 use Rattle.cue_table.specs.Tree.{behind_last}
-use Rattle.cue_table.specs.Form.{IsBelowAll, IsTree, AreBranches, IsRestOf}
+use Rattle.cue_table.specs.Form.{IsBelowAll, StartsAtIndex, IsTree, AreBranches, IsRestOf}
 use Rattle.cue_table.specs.Inner.Form.{Rise}
 use Rattle.cue_table.specs.Size.{tree_size, children_size}
 use Rattle.cue_table.specs.Inner.View.{below_in, branches, rest_in, run_branches, tree_of}
@@ -142,3 +142,36 @@ module _ {R : Type 0} where
   form_from P cs zero h = h
   form_from P [] (suc k) h = tt
   form_from P (c ∷ cs) (suc k) h = form_from P cs k h.3
+
+  items_skip : (c : Child R) (cs : List (Child R)) → is_label c.step ≡ true → items_of (branches (c ∷ cs)) ≡ items_of (branches cs)
+  items_skip c cs e = by c.step e
+    where
+      by : (s : Step) → is_label s ≡ true → items_of (child (step_of s) c.node (branches cs)) ≡ items_of (branches cs)
+      by (Label text) e = refl
+      by (Index n) e = cc
+
+  -- what stands after the labels is all items
+  pub items_from :
+      (cs : List (Child R)) (k : ℕ) → IsPartitionPoint (λ c. is_label c.step ≡ true) (λ c. is_label c.step ≡ false) cs k
+      → items_of (branches (drop k cs)) ≡ items_of (branches cs)
+  items_from cs zero p = refl
+  items_from [] (suc k) p = refl
+  items_from (c ∷ cs) (suc k) p =
+      items_from cs k (λ i d low lt. p.0 (suc i) d (omega arith) (omega arith), λ i d low lt. p.1 (suc i) d (omega arith) (omega arith))
+      ∙ sym (items_skip c cs (p.0 0 c (omega arith) (omega arith)))
+
+  starts_at : (c : Child R) (cs : List (Child R)) → is_label c.step ≡ false → StartsAtIndex (branches (c ∷ cs))
+  starts_at c cs e = by c.step e
+    where
+      by : (s : Step) → is_label s ≡ false → StartsAtIndex (child (step_of s) c.node (branches cs))
+      by (Label text) e = cc
+      by (Index n) e = tt
+
+  pub starts_from :
+      (cs : List (Child R)) (k : ℕ) → IsPartitionPoint (λ c. is_label c.step ≡ true) (λ c. is_label c.step ≡ false) cs k
+      → StartsAtIndex (branches (drop k cs))
+  starts_from [] zero p = tt
+  starts_from (c ∷ cs) zero p = starts_at c cs (p.1 0 c (omega arith) (omega arith))
+  starts_from [] (suc k) p = tt
+  starts_from (c ∷ cs) (suc k) p =
+      starts_from cs k (λ i d low lt. p.0 (suc i) d (omega arith) (omega arith), λ i d low lt. p.1 (suc i) d (omega arith) (omega arith))

@@ -1,23 +1,28 @@
 -- What is left on a way along branches.
-use Rattle.std.proofs.Common.{◌≡◌, ◌↔◌, ◌+◌, ◌-◌, ◌<◌, ◌≤◌, if◌then◌else◌, ℕ, zero, suc, List, [], ◌∷◌, ◌++◌, Bool, true, false, min, Option, Some, None, refl, sym, ap, subst, ◌∙◌, inl, inr, arith}
+use Rattle.std.proofs.Common.{◌≡◌, ◌↔◌, ◌+◌, ◌-◌, ◌<◌, ◌≤◌, if◌then◌else◌, ℕ, zero, suc, List, [], ◌∷◌, ◌++◌, drop, Bool, true, false, min, Option, Some, None, refl, sym, ap, subst, ◌∙◌, inl, inr, arith}
 use Rattle.std.specs.Global.{Global}
 use Rattle.std.specs.Option.{option_map, option_or, is_some}
 use Rattle.std.specs.Prelude.{Box, IfNone, IfSome, IsTrue, not}
+use Rattle.std.specs.List.Sorted.{IsPartitionPoint}
 use Rattle.std.proofs.lemmas.Bool.{cases_lt, lt-ltb, le-ltb}
 use Rattle.cue_lattice.specs.Path.{Step, label, index}
+use Rattle.cue_table.specs.declared.cursor.Cursor.{Cursor}
 use Rattle.cue_table.specs.Inner.Child.{Child}
 use Rattle.cue_table.specs.declared.node.Run.{Run}
 use Rattle.cue_table.specs.declared.node.Node.TheInside.{Inside}
 use Rattle.cue_table.specs.declared.node.Onward.{Onward}
 use Rattle.cue_table.specs.Size.{tree_size, children_size}
 use Rattle.cue_table.specs.Spans.{Span, field, elements, first_of, more_in, alike, spanned, spread}
-use Rattle.cue_table.specs.Tree.{Tree, node, Children, none, child, below, find, step_into, labels_of}
-use Rattle.cue_table.specs.Form.{IsBelowAll, IsTaken, IsTree, AreBranches}
-use Rattle.cue_table.specs.Inner.Cursors.{behind}
+use Rattle.cue_table.specs.Tree.{Tree, node, Children, none, child, below, find, step_into, labels_of, items_of}
+use Rattle.cue_table.specs.Form.{IsBelowAll, StartsAtIndex, IsTaken, IsTree, AreBranches}
+use Rattle.cue_table.specs.Inner.Form.{Rise}
+use Rattle.cue_table.specs.Inner.Cursors.{behind, begun_spans, spans_left}
 use Rattle.cue_table.specs.Inner.Join.{join}
 use Rattle.cue_table.specs.Inner.View.{below_in, branches, more_of, rest_in, run_branches, run_spans, runs_in, spans_in, tree_of}
 use Rattle.cue_table.proofs.Branches.{find_fixed}
-use Rattle.cue_table.proofs.Joined.{alike_join, find_earlier, find_later, join_none}
+use Rattle.cue_table.proofs.Finding.{branches_rise}
+use Rattle.cue_table.proofs.Joined.{alike_join, find_earlier, find_later, join_none, join_parts}
+use Rattle.cue_table.proofs.Nodes.{is_label, items_from, starts_from}
 use Rattle.cue_table.proofs.Spanned.{spread_in}
 
 module _ {R : Type 0} where
@@ -204,6 +209,59 @@ module _ {R : Type 0} where
   pub left_form : (P : R → Type 0) (span : Span) (tree : Tree R) (all left : List (Span × Tree R)) → all ≡ (span, tree) ∷ left
       → AreBranches P (spread all) → IsTree P tree × AreBranches P (spread left)
   left_form P span tree all left e h = span_form P span tree (spread left) (subst (λ spans. AreBranches P (spread spans)) e h)
+
+-- ---- elements are left behind the labels
+starts_join : {R : Type 0} (a b : Children R) → StartsAtIndex a → StartsAtIndex b → StartsAtIndex (join a b)
+starts_join none b h k = k
+starts_join (child (label text) tree children) b h k = h
+starts_join (child (index i) tree children) b h k = tt
+
+starts_alike : {R : Type 0} (i more : ℕ) (tree : Tree R) (others : Children R) → StartsAtIndex (alike i more tree others)
+starts_alike i zero tree others = tt
+starts_alike i (suc more) tree others = tt
+
+starts_runs : {R Q : Type 0} (rs : List (Run R Q)) → StartsAtIndex (run_branches rs)
+starts_runs [] = tt
+starts_runs (r ∷ rs) = starts_alike r.first (more_of r.first r.more) r.node (run_branches rs)
+
+items_join : {R : Type 0} (a b : Children R) → items_of (join a b) ≡ items_of a ++ items_of b
+items_join none b = refl
+items_join (child (label text) tree children) b = items_join children b
+items_join (child (index i) tree children) b = ap (λ items. (i, tree) ∷ items) (items_join children b)
+
+module _ {R : Type 0} where
+  form_behind : (P : R → Type 0) (cs : List (Child R)) (k : ℕ) (b : Children R) → AreBranches P (join (branches cs) b) → AreBranches P (join (branches (drop k cs)) b)
+  form_behind P cs zero b h = h
+  form_behind P [] (suc k) b h = h
+  form_behind P (c ∷ cs) (suc k) b h = form_behind P cs k b h.3
+
+  abbrev Labels : List (Child R) → ℕ → Type 0
+  Labels cs k = IsPartitionPoint (λ c. is_label c.step ≡ true) (λ c. is_label c.step ≡ false) cs k
+
+  -- a way that has not begun has all branches of its lists
+  whole_way : {Q : Type 0} (cursor : Cursor R Q) → cursor.begun ≡ None → spread (spans_left cursor) ≡ join (branches cursor.own.now) (run_branches cursor.runs.now)
+  whole_way cursor e = ap (λ b. spread (begun_spans b ++ (spans_in cursor.own.now ++ run_spans cursor.runs.now))) e ∙ spread_place cursor.own.now cursor.runs.now
+
+  -- without its labels it has the elements alone
+  pub items_way : {Q : Type 0} (P : R → Type 0) (left right : Cursor R Q) (k : ℕ) → left.begun ≡ None → right.begun ≡ None → right.own.now ≡ drop k left.own.now → right.runs.now ≡ left.runs.now
+      → Labels left.own.now k → AreBranches P (spread (spans_left left))
+      → AreBranches P (spread (spans_left right)) × StartsAtIndex (spread (spans_left right)) × (items_of (spread (spans_left right)) ≡ items_of (spread (spans_left left)))
+  items_way P left right k e f own runs point h =
+      let cs = left.own.now in
+      let b = run_branches left.runs.now in
+      let whole = whole_way left e in
+      let is : spread (spans_left right) ≡ join (branches (drop k cs)) b = whole_way right f ∙ (λ i. join (branches (own i)) (run_branches (runs i))) in
+      let form = form_behind P cs k b (subst (AreBranches P) whole h) in (
+        subst (AreBranches P) (sym is) form,
+        subst StartsAtIndex (sym is) (starts_join (branches (drop k cs)) b (starts_from cs k point) (starts_runs left.runs.now)),
+        ap items_of is ∙ items_join (branches (drop k cs)) b ∙ ap (λ items. items ++ items_of b) (items_from cs k point) ∙ sym (items_join (branches cs) b) ∙ ap items_of (sym whole),
+      )
+
+  -- the labels of its own branches come first
+  pub own_way : {Q : Type 0} (P : R → Type 0) (left : Cursor R Q) → left.begun ≡ None → AreBranches P (spread (spans_left left)) → Rise (branches left.own.now)
+  own_way P left e h =
+      let parts = join_parts P (branches left.own.now) (run_branches left.runs.now) (subst (AreBranches P) (whole_way left e) h) in
+      branches_rise P (branches left.own.now) parts.0
 
 -- ---- what is left is smaller
 module _ {R : Type 0} where

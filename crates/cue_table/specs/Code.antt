@@ -93,12 +93,15 @@ mutual
 abbrev pub tree_code : {R : Type 0} → Coded R → Coded (Tree R)
 tree_code c = record { code = tree_gv c.code; inj = tree_inj c }
 
--- the codes of branches, of those at labels and of spans
+-- the codes of branches, of those at labels, of those at indexes and of spans
 abbrev pub children_code : {R : Type 0} → Coded R → Coded (Children R)
 children_code c = record { code = children_gv c.code; inj = children_inj c }
 
 abbrev pub labels_code : {R : Type 0} → Coded R → Coded (List (List ℕ × Tree R))
 labels_code c = coded_list (coded× texts (tree_code c))
+
+abbrev pub items_code : {R : Type 0} → Coded R → Coded (List (ℕ × Tree R))
+items_code c = coded_list (coded× coded_ℕ (tree_code c))
 
 pub span_gv : Span → Gv
 span_gv (field text) = gcons (gnum 0) (texts.code text)

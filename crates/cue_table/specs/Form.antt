@@ -10,6 +10,12 @@ abbrev pub IsBelowAll : {R : Type 0} → Step → Children R → Type 0
 IsBelowAll step none = Unit {0}
 IsBelowAll step (child next tree children) = (step_cmp step next ≡ Less) × IsBelowAll step children
 
+-- the first step is no label
+abbrev pub StartsAtIndex : {R : Type 0} → Children R → Type 0
+StartsAtIndex none = Unit {0}
+StartsAtIndex (child (label text) tree children) = ⊥
+StartsAtIndex (child (index number) tree children) = Unit {0}
+
 -- a row stands at the tree's place or below
 abbrev pub IsTaken : {R : Type 0} → Tree R → Type 0
 IsTaken (node (Some row) children rest) = Unit {0}

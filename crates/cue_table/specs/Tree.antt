@@ -104,3 +104,9 @@ abbrev pub labels_of : {R : Type 0} → Children R → List (List ℕ × Tree R)
 labels_of none = []
 labels_of (child (label text) tree children) = (text, tree) ∷ labels_of children
 labels_of (child (index number) tree children) = labels_of children
+
+-- the branches at indexes, in order
+abbrev pub items_of : {R : Type 0} → Children R → List (ℕ × Tree R)
+items_of none = []
+items_of (child (label text) tree children) = items_of children
+items_of (child (index number) tree children) = (number, tree) ∷ items_of children

@@ -1,18 +1,22 @@
-ghost use Rattle.std.specs.Prelude.{◌≡◌, ◌≤◌, ◌^◌};
+ghost use Rattle.std.specs.Prelude.{◌≡◌, ◌≤◌, ◌^◌, IfOk};
 ghost use Rattle.std.specs.Option.{option_map};
 ghost use Rattle.cue_table.specs.Tree.{row_of, below, rest_of, rest_tree, fixed_of, step_into};
-ghost use Rattle.cue_table.specs.Tree.{behind_last, labels_of};
+ghost use Rattle.cue_table.specs.Tree.{behind_last, labels_of, items_of};
+ghost use Rattle.cue_table.specs.Depth.{tree_depth};
+ghost use Rattle.cue_lattice.specs.Limits.{step_limit};
 ghost use Rattle.cue_table.specs.Form.{AreBranches, IsKept, IsTable};
 ghost use Rattle.cue_row.specs.Steps.{step_of};
 ghost use Rattle.cue_table.specs.Spans.{spread};
 ghost use Rattle.cue_table.specs.Inner.View.{branches};
 
+use crate::Table;
 use crate::child::Child;
-use crate::iter::{Children, Labels, Spans};
+use crate::iter::{Children, Items, Labels, Spans};
 use crate::node::Node;
 use crate::rest::{fixed, rest};
-use cue_lattice::Narrow;
+use cue_lattice::{Memory, Narrow};
 use cue_row::Step;
+use std::alloc::Global;
 use std::marker::Model;
 
 /// A place of a table, with all that is known there and below. Contracts see it as a tree. Its
@@ -43,6 +47,19 @@ impl<'a, R: Narrow> Branch<'a, R> {
         ensures { result ≡ node.now }
     {
         Branch { node }
+    }
+
+    /// The place as the root of a table of its own, which shares what is known below: this costs
+    /// the branches of the place alone.
+    ///
+    /// # Errors
+    ///
+    /// `Memory`.
+    pub fn to_table(&self, alloc: Global) -> Result<Table<R>, Memory>
+        requires depth { tree_depth self.now ≤ step_limit }
+        ensures { IfOk result (λ table. table ≡ self.now) }
+    {
+        Ok(Table::of_root(alloc, self.node.copy(alloc)?))
     }
 
     /// What is known at the place itself; nothing means that this is free.
@@ -93,6 +110,15 @@ impl<'a, R: Narrow> Branch<'a, R> {
     {
         let node = self.node;
         Labels::new(&node.children)
+    }
+
+    /// The branches at indexes of their own, by number.
+    pub fn items(&self) -> Items<'a, R>
+        ensures list { result ≡ items_of (below self.now) }
+        ensures form { IsTable R.refuses R.is_value self.now }
+    {
+        let node = self.node;
+        Items::new(node.cursor())
     }
 
     /// What each element is from index [`Branch::fixed`] on, unless nothing is known of it.

@@ -1,7 +1,7 @@
 //! The iterators over the branches of a place.
-ghost use Rattle.std.specs.Prelude.{◌≡◌};
+ghost use Rattle.std.specs.Prelude.{◌≡◌, None};
 ghost use Rattle.std.specs.Iterator.{YieldsFirstBy, item_count};
-ghost use Rattle.cue_table.specs.Tree.{children_of, labels_of};
+ghost use Rattle.cue_table.specs.Tree.{children_of, labels_of, items_of};
 ghost use Rattle.cue_table.specs.Form.{AreBranches, IsKept};
 ghost use Rattle.cue_table.specs.StepsOfCode.{step_at, span_of};
 ghost use Rattle.cue_table.specs.Spans.{spread};
@@ -162,6 +162,68 @@ impl<'a, R: Narrow> Iterator for Labels<'a, R> {
             }
             // No label stands after an index.
             Step::Index(_) => None,
+        }
+    }
+}
+
+/// The branches at the indexes below a place, in the order of the indexes. Contracts see the list
+/// of those that are left.
+#[derive(Drop)]
+pub struct Items<'a, R: Narrow> {
+    left: Cursor<'a, R>,
+}
+
+impl<'a, R: Narrow> Model for Items<'a, R> {
+    ghost use Rattle.std.specs.Prelude.{List, ℕ};
+    ghost use Rattle.cue_table.specs.Tree.{Tree};
+    ghost use Rattle.cue_table.specs.Code.{items_code};
+
+    ghost Value = { List (ℕ × Tree R) };
+
+    ghost coded = { items_code R.code };
+
+    ghost use Rattle.cue_table.specs.Tree.{items_of};
+    ghost use Rattle.cue_table.specs.Spans.{spread};
+    ghost use Rattle.cue_table.specs.Inner.Cursors.{spans_left};
+    ghost use Rattle.cue_table.specs.Form.{AreBranches, IsKept, StartsAtIndex};
+
+    ghost view = { λ it. items_of (spread (spans_left it.left)) };
+
+    ghost invariant = { λ it.
+        AreBranches (IsKept R.refuses R.is_value) (spread (spans_left it.left))
+        × StartsAtIndex (spread (spans_left it.left)) };
+}
+
+impl<'a, R: Narrow> Items<'a, R> {
+    pub(crate) fn new(mut left: Cursor<'a, R>) -> Items<'a, R>
+        requires begun { left.begun ≡ None }
+        requires form { AreBranches (IsKept R.refuses R.is_value) (spread (spans_left left)) }
+        ensures { result ≡ items_of (spread (spans_left left.entry)) }
+    {
+        let labels = left
+            .own
+            .partition_point(|child| matches!(child.step(), Step::Label(_)));
+        left.own = left.own.split_at(labels).1;
+        Items { left }
+    }
+}
+
+impl<'a, R: Narrow> Iterator for Items<'a, R> {
+    type Item = (u32, Branch<'a, R>);
+
+    ghost next_gives = { YieldsFirstBy (λ item. item) (λ rest. rest) };
+
+    ghost remaining = { item_count (λ rest. rest) };
+
+    fn next(&mut self) -> Option<(u32, Branch<'a, R>)> {
+        let (span, node) = self.left.next()?;
+        match span {
+            // Only indexes are left.
+            Span::Label(_) => None,
+            Span::Elements { first, more: _ } => {
+                self.left.put_back(span, 0, node);
+                Some((first, Branch::new(node)))
+            }
         }
     }
 }

@@ -33,7 +33,7 @@ pub use branch::Branch;
 pub use cue_lattice::{Memory, Narrow};
 pub use cue_row::{Path, Row, Step};
 pub use draft::Draft;
-pub use iter::{Children, Labels, Spans};
+pub use iter::{Children, Items, Labels, Spans};
 pub use laws::{equal_answers, equal_rows, meet_is_greatest_lower_bound, rows_in_order};
 pub use place::Place;
 pub use slot::Slot;

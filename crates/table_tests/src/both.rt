@@ -5,7 +5,7 @@
 use crate::plain::{Entry, Made, Plain};
 use cue_lattice::Narrow;
 use cue_row::Path;
-use cue_table::{Branch, Draft, Place, Slot, StepRef, Table};
+use cue_table::{Branch, Draft, Place, Slot, Table};
 use std::alloc::Global;
 
 /// Two lists of rows.
@@ -395,12 +395,10 @@ pub fn has_labels<R: Narrow>(branch: &Branch<R>, wanted: &[&str]) -> bool {
 /// Whether these are the indexes below a branch, with a row at each that says so.
 pub fn has_indexes<R: Narrow>(branch: &Branch<R>, wanted: &[(u32, bool)]) -> bool {
     let mut rest = wanted.iter();
-    for (step, lower) in branch.children() {
-        if let StepRef::Index(index) = step {
-            match rest.next() {
-                Some((at, is_row)) if index == *at && lower.row().is_some() == *is_row => {}
-                _ => return false,
-            }
+    for (index, lower) in branch.items() {
+        match rest.next() {
+            Some((at, is_row)) if index == *at && lower.row().is_some() == *is_row => {}
+            _ => return false,
         }
     }
     rest.next().is_none()

@@ -9,7 +9,7 @@ use Rattle.std.proofs.Common.{arith, subst}
 use Rattle.cue_lattice.specs.Path.{Step, label, index, step_cmp}
 use Rattle.cue_table.specs.Tree.{Tree, node, Children, none, child, Rest, no_rest, onward, below}
 use Rattle.cue_table.specs.Tree.{rest_of, if_equal, find, find_with, step_into, rest_tree}
-use Rattle.cue_table.specs.Tree.{children_of, labels_of}
+use Rattle.cue_table.specs.Tree.{children_of, labels_of, items_of}
 use Rattle.cue_table.specs.Size.{tree_size, children_size, rest_size}
 
 -- each of the branches is smaller than n
@@ -49,10 +49,22 @@ module _ {R : Type 0} where
       (omega arith, smaller_labels n children (omega arith))
   smaller_labels n (child (index number) tree children) h = smaller_labels n children (omega arith)
 
+  smaller_items : (n : ℕ) (children : Children R) → children_size children < n
+      → AreSmaller n (items_of children)
+  smaller_items n none h = tt
+  smaller_items n (child (label text) tree children) h = smaller_items n children (omega arith)
+  smaller_items n (child (index number) tree children) h =
+      (omega arith, smaller_items n children (omega arith))
+
   -- each branch at a label is smaller than its tree
   pub labels_smaller : (tree : Tree R) → AreSmaller (tree_size tree) (labels_of (below tree))
   labels_smaller (node row children rest) =
       smaller_labels (children_size children + rest_size rest + 1) children (omega arith)
+
+  -- and each branch at an index
+  pub items_smaller : (tree : Tree R) → AreSmaller (tree_size tree) (items_of (below tree))
+  items_smaller (node row children rest) =
+      smaller_items (children_size children + rest_size rest + 1) children (omega arith)
 
   smaller_found : (o : Ordering) (here tree : Tree R) (other : Option (Tree R)) (n : ℕ)
       → tree_size here < n → (other ≡ Some tree → tree_size tree < n)
