@@ -92,11 +92,15 @@ def front_of(words):
         return process.stdout.read(200)
 
 
-def said(out, faults):
+def said(out, faults, files=()):
     """What the program said in the place of an answer: the line of a refusal, without what stands in front of it, or of a
-    fault."""
+    fault. Of a refused input it names the file, where the files are given."""
     refused = REFUSED.search(out)
-    return (refused[0] if refused else faults or out[:200]).decode(errors="replace").strip()
+    text = (refused[0] if refused else faults or out[:200]).decode(errors="replace").strip()
+    if refused and refused[4] and 0 < int(refused[4]) <= len(files):
+        name = files[int(refused[4]) - 1]
+        return f"{name}: {text.rsplit(' in ', 1)[0]}; cuestore-explain print {name}"
+    return text
 
 
 def stop(name, message, status=1):
