@@ -62,7 +62,7 @@ def stamp_of(crate):
              if os.path.basename(path) in ("stamp", f"{crate}.stamp")]
     for path in sorted(paths):
         with open(path, encoding="ascii") as file:
-            return file.read().strip()
+            return "+".join(file.read().split()) or "none"
     return "none"
 
 
