@@ -3,6 +3,7 @@ import json
 import re
 
 from fragments import CLOSE, OPEN, Declaration, tokens_of
+from program import visible
 
 # What each refusal says, and what to write instead.
 SAID = {
@@ -285,9 +286,9 @@ class Fault:
         if self.number in (17, 18):
             return f"{name}:1:1: {self.name}: {sentence}\n    instead: {instead}\n"
         line = self.shown[self.shown_at - column + 1:].split("\n", 1)[0]
-        shown = line.replace("\t", " ").replace("\ufeff", " ")[:200]
-        return (f"{name}:{row}:{column}: {self.title()}: {sentence}\n"
-                f"    {shown}\n    {' ' * (column - 1)}^\n    instead: {instead}\n")
+        shown = line.replace("\t", " ").replace("\ufeff", " ").replace("\r", " ")[:200]
+        return (f"{visible(name)}:{row}:{column}: {self.title()}: {visible(sentence)}\n"
+                f"    {visible(shown)}\n    {' ' * len(visible(shown[:column - 1].ljust(column - 1)))}^\n    instead: {visible(instead)}\n")
 
     def as_json(self, name, lines_before=0):
         row, column = self.where(lines_before)

@@ -5,7 +5,7 @@ import re
 
 from fragments import CLOSE, OPEN, is_comma, tokens_of
 from printed import Printed, step_of, steps_of
-from program import run
+from program import run, visible
 
 MOST_VISITS = 20000  # of declarations, since definitions that use definitions may be long
 MOST_SHOWN = 90  # characters of what is said
@@ -19,7 +19,7 @@ class Saying:
 
     def __str__(self):
         place = f"{self.name}:{self.row}:{self.column}" if self.row else self.name
-        return f"{place}: {self.text}"
+        return visible(f"{place}: {self.text}")
 
     def as_json(self):
         return {"file": self.name, "line": self.row, "column": self.column, "text": self.text}
