@@ -13,7 +13,7 @@ import stat
 import subprocess
 import tempfile
 
-from sites import Fault
+from sites import Fault, naming
 
 NAME = re.compile(r"[A-Za-z0-9_][A-Za-z0-9._-]*\Z")
 STATES, FRAGMENTS = ".state", ".fragments"
@@ -44,7 +44,7 @@ class Carrier:
     def run_to(self, path, words, env=None):
         """Writes what a command prints to a file, of the size that a state may have at most."""
         with subprocess.Popen(words, stdin=subprocess.DEVNULL, stdout=subprocess.PIPE, stderr=subprocess.PIPE, env=env) as process:
-            with open(path, "wb") as file:
+            with naming(path), open(path, "wb") as file:
                 if not copied(process.stdout, file, self.most + 1):
                     process.kill()
                     raise TooLarge
@@ -132,7 +132,7 @@ class Folder(Carrier):
             handle = os.open(os.path.join(self.place(), file_of(name)), os.O_RDONLY | os.O_NOFOLLOW | os.O_NONBLOCK)
         except FileNotFoundError:
             return False
-        with os.fdopen(handle, "rb") as source, open(path, "wb") as target:
+        with os.fdopen(handle, "rb") as source, naming(path), open(path, "wb") as target:
             if not stat.S_ISREG(os.fstat(handle).st_mode):
                 return False
             if not copied(source, target, self.most + 1):
@@ -143,6 +143,10 @@ class Folder(Carrier):
         """Writes beside the entry and renames, so that nobody sees half of it, and a link there is replaced."""
         for folder in (self.at, self.place()):
             make(folder)
+        with naming(os.path.join(self.place(), file_of(name))):
+            self.write(name, path)
+
+    def write(self, name, path):
         handle, fresh = tempfile.mkstemp(prefix=".carry.", dir=self.place())
         try:
             with os.fdopen(handle, "wb") as target, open(path, "rb") as source:

@@ -166,5 +166,5 @@ def printed_of(name, files):
     """The root's place, of what is said by all inputs together."""
     status, out, faults = run(["print", "--", *files])
     if status:
-        stop(name, said(out, faults), status)
+        stop(name, said(out, faults, files), status)
     return Printed(out.decode()).root

@@ -25,6 +25,9 @@ CUESTORE = found_program()
 # The line of a refusal: its number and name, and the place and input, where it is of one. It ends the output, and stands
 # behind the front of an answer where memory ran out while that was written.
 REFUSED = re.compile(rb"refused (\d+) (\w+)(?: at (\d+) in (\d+))?\n\Z")
+# What a terminal does not show, or takes for an order: controls but the tab and the line break, and marks that turn the
+# direction of what stands behind them.
+HIDDEN = re.compile("[\x00-\x08\x0b-\x1f\x7f-\x9f\u202a-\u202e\u2066-\u2069]")
 # The most bytes of an answer that a script holds: it is written while it is made, and may have no end.
 MOST = 1 << 28
 
@@ -92,13 +95,22 @@ def front_of(words):
         return process.stdout.read(200)
 
 
-def said(out, faults):
+def said(out, faults, files=()):
     """What the program said in the place of an answer: the line of a refusal, without what stands in front of it, or of a
-    fault."""
+    fault. Of a refused input it names the file, where the files are given."""
     refused = REFUSED.search(out)
-    return (refused[0] if refused else faults or out[:200]).decode(errors="replace").strip()
+    text = (refused[0] if refused else faults or out[:200]).decode(errors="replace").strip()
+    if refused and refused[4] and 0 < int(refused[4]) <= len(files):
+        name = files[int(refused[4]) - 1]
+        return f"{name}: {text.rsplit(' in ', 1)[0]}; cuestore-explain print {name}"
+    return text
+
+
+def visible(text):
+    """The text for a line of a script's own, with what a terminal does not show as escapes."""
+    return HIDDEN.sub(lambda found: f"\\u{ord(found[0]):04X}", text)
 
 
 def stop(name, message, status=1):
-    print(f"{name}: {message}", file=sys.stderr)
+    print(visible(f"{name}: {message}"), file=sys.stderr)
     sys.exit(status)

@@ -3,6 +3,7 @@ import json
 import re
 
 from fragments import CLOSE, OPEN, Declaration, tokens_of
+from program import visible
 
 # What each refusal says, and what to write instead.
 SAID = {
@@ -49,6 +50,8 @@ FORMS = {
 NO_NUMBER = ("a number with a fraction or an exponent", "integers alone, in a smaller unit, or a string")
 LET = ("let", "a definition at the top, `#name: ..`, and `#name` where it is used")
 HIDDEN = ("a hidden name", "a definition at the top, `#name: ..`, and `#name` where it is used; it isn't exported either")
+HIDDEN_STRUCT = "a definition at the top with `...` in each struct inside, `#name: {.., ...}`, since it is closed without, and " \
+    "`#name` where it is used; it isn't exported either"
 UNKNOWN = {
     **{name: NO_NUMBER for name in ("number", "float", "float32", "float64")},
     "bytes": ("bytes", "a string, as base64 say"),
@@ -107,6 +110,8 @@ def pattern_of(found):
         return ("a string that a value is put into", "write the whole string")
     if here.kind == "number" and re.search(r"[.eE]|[KMGTP]i?$", here.text) and not here.text.startswith(("0x", "0X")):
         return NO_NUMBER if not re.search(r"[KMGTP]i?$", here.text) else ("a number with a unit", "write it out")
+    if here.text == "=" and found.inside == "[" and is_pattern(found):
+        return ("a pattern of labels with an alias, as [Name=string]: ..", "write a field for each label; `{...}` lets all labels stand")
     if here.text == ":" and before.text == "]":
         return ("a pattern of labels, as [string]: ..", "write a field for each label; `{...}` lets all labels stand")
     if here.text == "." and before.kind in ("name", "string") or here.kind == "number" and here.text[:1] == ".":
@@ -122,6 +127,42 @@ def pattern_of(found):
     return None
 
 
+def is_pattern(found):
+    """Whether the bracket around a place is a label: a colon stands behind it."""
+    depth, i = 0, found.at
+    while i < len(found.tokens):
+        token = found.tokens[i]
+        depth += (token.text in OPEN) - (token.text in CLOSE) if token.kind == "mark" else 0
+        i += 1
+        if depth < 0:
+            return i < len(found.tokens) and found.tokens[i].text == ":"
+    return False
+
+
+def assigns(found):
+    """Whether an equals sign stands where a field has its colon: behind a label, and no colon follows, as an alias has one."""
+    depth, label = 0, found.tokens[found.at - 1]
+    for token in found.tokens[found.at:found.end]:
+        depth += (token.text in OPEN) - (token.text in CLOSE) if token.kind == "mark" else 0
+        if depth == 0 and token.text == ":":
+            return False
+    return label.kind in ("name", "string")
+
+
+def is_struct(found):
+    """Whether the value of the declaration here is a struct."""
+    i = next((i for i in range(found.first, found.end) if found.tokens[i].text == ":"), found.end)
+    return i + 1 < found.end and (found.tokens[i + 1].text == "{" or found.tokens[i + 2:i + 3] and found.tokens[i + 2].text == ":")
+
+
+def declared(tokens, name):
+    """The declaration of a hidden name; none, where there is none."""
+    for i, token in enumerate(tokens[:-1]):
+        if token.kind == "name" and token.text == name and tokens[i + 1].text == ":":
+            return Declaration(tokens, token.start)
+    return None
+
+
 def special_of(fault):
     """The sentence and what to write instead, where the whole text or the label says more than the place."""
     found, here = fault.found, fault.found.token()
@@ -129,17 +170,39 @@ def special_of(fault):
         return "a byte order mark", "save the file as UTF-8 without one"
     if fault.text.lstrip()[:1] in ("{", "[") and is_json(fault.text):
         return "this is JSON, and no fragment", "from-json makes a fragment of it: from-json FILE > FILE.cue"
-    label = DASHED.match(fault.text, here.start) if here.kind == "name" and found.at == found.first else None
+    if here.text == "/" and found.token(1).text == "*" and found.token(1).start == here.end:
+        return "a comment begins with // and ends with its line", "// at the head of each line"
+    if here.text == "=" and found.at == found.first + 1 and found.inside != "[" and assigns(found):
+        label = fault.text[found.tokens[found.first].start:found.token(-1).end]
+        return "a field has a colon behind its label, and no equals sign", f"`{label}: ..`"
+    label = DASHED.match(fault.text, found.tokens[found.first].start) if here.kind == "name" and found.at == found.first or \
+        here.text == "." and found.at == found.first + 1 else None
+    if label and not re.search(r"[-/@]", label[1]):
+        path = label[1].replace(".", ": ")
+        return "a label with dots", f'`{path}: ..` is the field at this path; a label that has dots is quoted, as "{label[1]}": ..'
     if label:
         return "a label with a character that names don't have", f'quote it, as "{label[1]}": ..'
+    if fault.name == "UnknownName" and here.text.startswith("#"):
+        return ("a definition that this file does not declare: a definition belongs to one file",
+                f"declare `{here.text}: ..` in this file too, or write the fields into one file with it")
+    if fault.name == "NotScalar" and re.search(r"\*\s*\[\s*\]", text_of(fault)):
+        return ("a disjunction with a list: its terms are scalars", "the open list alone, as `[...string]`: it exports `[]` where "
+                "nothing else is said")
     if fault.name == "Syntax" and found.at >= len(found.tokens) and found.inside:
         bracket, row = open_bracket(fault)
         return f"the text ends, and the `{bracket}` of line {row} is still open", f"close it, by `{closing(bracket)}`"
     if here.kind == "name" and here.text.startswith("_") and fault.name in ("LeftOut", "UnknownName") and here.text != "_":
         used = sum(token.kind == "name" and token.text == here.text for token in found.tokens)
         if fault.name == "UnknownName" or form_of(found) == "HiddenLabel" and used > 1:
-            return f"{HIDDEN[0]} is left out", HIDDEN[1]
+            place = declared(tokens_of(fault.shown), here.text)
+            return f"{HIDDEN[0]} is left out", HIDDEN_STRUCT if place and is_struct(place) else HIDDEN[1]
     return None
+
+
+def text_of(fault):
+    """The text of the declaration that the fault is in."""
+    tokens = fault.found.tokens[fault.found.first:fault.found.end]
+    return fault.text[tokens[0].start:tokens[-1].end] if tokens else ""
 
 
 def open_bracket(fault):
@@ -181,6 +244,12 @@ class Fault:
         self.text = data.decode("utf-8", "surrogateescape")
         self.place = len(data[:place].decode("utf-8", "surrogateescape"))
         self.found = Declaration(tokens_of(self.text), self.place)
+        self.show(data)
+
+    def show(self, data):
+        """Takes the input as it is, of which a part may be left out in the text; places in both are the same, in bytes."""
+        self.shown = data.decode("utf-8", "surrogateescape")
+        self.shown_at = len(data[:self.byte].decode("utf-8", "surrogateescape"))
 
     def title(self):
         return f"LeftOut({form_of(self.found)})" if self.name == "LeftOut" else self.name
@@ -208,18 +277,18 @@ class Fault:
         """The line and column, from 1."""
         if self.number in (17, 18):
             return 1, 1
-        start = self.text.rfind("\n", 0, self.place) + 1
-        return self.text.count("\n", 0, self.place) + 1 + lines_before, self.place - start + 1
+        start = self.shown.rfind("\n", 0, self.shown_at) + 1
+        return self.shown.count("\n", 0, self.shown_at) + 1 + lines_before, self.shown_at - start + 1
 
     def told(self, name, lines_before=0):
         row, column = self.where(lines_before)
         sentence, instead = self.said()
         if self.number in (17, 18):
             return f"{name}:1:1: {self.name}: {sentence}\n    instead: {instead}\n"
-        line = self.text[self.place - column + 1:].split("\n", 1)[0]
-        shown = line.replace("\t", " ").replace("\ufeff", " ")[:200]
-        return (f"{name}:{row}:{column}: {self.title()}: {sentence}\n"
-                f"    {shown}\n    {' ' * (column - 1)}^\n    instead: {instead}\n")
+        line = self.shown[self.shown_at - column + 1:].split("\n", 1)[0]
+        shown = line.replace("\t", " ").replace("\ufeff", " ").replace("\r", " ")[:200]
+        return (f"{visible(name)}:{row}:{column}: {self.title()}: {visible(sentence)}\n"
+                f"    {visible(shown)}\n    {' ' * len(visible(shown[:column - 1].ljust(column - 1)))}^\n    instead: {visible(instead)}\n")
 
     def as_json(self, name, lines_before=0):
         row, column = self.where(lines_before)
@@ -244,6 +313,8 @@ class Fault:
         if ends < found.at or found.first > found.at:
             return None
         if value is None or value > ends:
+            # A comma of its own goes with it.
+            ends += found.end < len(tokens) and tokens[found.end].text == ","
             return self.filled(tokens[found.first].start, tokens[ends].end, "")
         return self.filled(tokens[value].start, tokens[ends].end, "0")
 

@@ -1,10 +1,11 @@
 """Finds the declarations of fragments that say something at a path, with their lines: also those in the bodies of the
 definitions that are used there, and those of the rest of a list."""
 import functools
+import re
 
 from fragments import CLOSE, OPEN, is_comma, tokens_of
 from printed import Printed, step_of, steps_of
-from program import run
+from program import run, visible
 
 MOST_VISITS = 20000  # of declarations, since definitions that use definitions may be long
 MOST_SHOWN = 90  # characters of what is said
@@ -18,10 +19,23 @@ class Saying:
 
     def __str__(self):
         place = f"{self.name}:{self.row}:{self.column}" if self.row else self.name
-        return f"{place}: {self.text}"
+        return visible(f"{place}: {self.text}")
 
     def as_json(self):
         return {"file": self.name, "line": self.row, "column": self.column, "text": self.text}
+
+
+class Closer:
+    """A use of a definition, or of `close`: the field that has it, and the struct literals at one path in its body."""
+
+    def __init__(self, field):
+        self.field, self.literals = field, []
+
+    def allowed(self):
+        """The labels that may stand at the path; none, where no literal is there, or one of them leaves it open."""
+        if not self.literals or any(is_open for _, _, _, is_open in self.literals):
+            return None
+        return sorted(set().union(*(labels for _, _, labels, _ in self.literals)))
 
 
 class Fragment:
@@ -29,11 +43,21 @@ class Fragment:
 
     def __init__(self, name, text):
         self.name, self.text, self.tokens = name, text, tokens_of(text)
-        self.visits = 0
+        self.visits, self.bodies = 0, {}
         self.definitions = {}
         for first, value, end in self.declarations(0, len(self.tokens)):
             if self.tokens[first].text.startswith("#"):
                 self.definitions.setdefault(self.tokens[first].text, (first, value, end))
+
+    def fields(self, at, end, step):
+        """The declarations between two tokens of the field of this step."""
+        if (at, end) not in self.bodies:
+            body = self.bodies[at, end] = {}
+            for first, value, stop in self.declarations(at, end):
+                label = self.tokens[first].text
+                if not label.startswith("#"):
+                    body.setdefault(step_of(label if label.startswith('"') else f'"{label}"'), []).append((first, value, stop))
+        return self.bodies[at, end].get(step, [])
 
     def declarations(self, at, end):
         """The first token, the first of the value and the end of each field between two tokens."""
@@ -84,15 +108,11 @@ class Fragment:
         return list(self.in_struct(0, len(self.tokens), steps))
 
     def in_struct(self, at, end, steps):
-        for first, value, stop in self.declarations(at, end):
-            label = self.tokens[first].text
-            if label.startswith("#"):
-                continue
+        for first, value, stop in self.fields(at, end, steps[0]):
             self.visits += 1
             if self.visits > MOST_VISITS:
                 return
-            if step_of(label if label.startswith('"') else f'"{label}"') == steps[0]:
-                yield from self.at_field(first, value, stop, steps[1:])
+            yield from self.at_field(first, value, stop, steps[1:])
 
     def at_field(self, first, value, stop, steps):
         if not steps:
@@ -133,6 +153,93 @@ class Fragment:
             at = stop + 1
 
 
+    def closers(self, steps, label):
+        """What closes the struct at the path of these steps, which is not the root, and does not allow the label."""
+        self.visits, closers, found, seen = 0, [], [], set()
+        for first, value, stop in self.fields(0, len(self.tokens), steps[0]):
+            self.close_value(value, stop, steps[1:], (first, stop), (), closers)
+        refusing = [closer for closer in closers if closer.allowed() is not None and label not in closer.allowed()]
+        for closer in refusing:
+            if any({*other.literals} < {*closer.literals} for other in refusing):
+                continue  # one within it refuses the label already
+            allowed = closer.allowed()
+            only = f"only {', '.join(allowed)}" if allowed else "no label"
+            inside = [literal for literal in closer.literals if closer.field[0] <= literal[0] and literal[1] <= closer.field[1]]
+            for place, more in [(closer.field, f": {only}" if inside else "")] + [
+                    (literal[:2], f": {only}") for literal in closer.literals if literal not in inside]:
+                said = self.saying(*place)
+                if (said.row, said.column) not in seen:
+                    seen.add((said.row, said.column))
+                    said.text += more
+                    found.append(said)
+        return found
+
+    def close_value(self, at, stop, steps, field, around, closers):
+        """Gives each closer around a value the struct literals that stand at the path of these steps below it."""
+        self.visits += 1
+        if self.visits > MOST_VISITS:
+            return
+        if self.value_of(at, stop):
+            self.close_struct(at, stop, at, stop, steps, around, closers)
+            return
+        while at < stop:
+            token, behind = self.tokens[at], self.behind(at)
+            if token.kind == "name" and token.text in self.definitions:
+                closers.append(Closer(field))
+                _, value, end = self.definitions[token.text]
+                self.close_value(value, end, steps, field, (*around, closers[-1]), closers)
+            elif token.text == "close" and at + 1 < stop and self.tokens[at + 1].text == "(":
+                behind = self.behind(at + 1)
+                own = [Closer(field)] if not steps else []  # it closes its own place alone
+                closers += own
+                self.close_value(at + 2, behind - 1, steps, field, (*around, *own), closers)
+            elif token.text == "(":
+                self.close_value(at + 1, behind - 1, steps, field, around, closers)
+            elif token.text == "{":
+                self.close_struct(at, behind, at + 1, behind - 1, steps, around, closers)
+            elif token.text == "[" and steps:
+                self.close_list(at + 1, behind - 1, steps, around, closers)
+            at = behind
+
+    def close_struct(self, start, stop, at, end, steps, around, closers):
+        """The same for a struct literal, whose declarations stand between two tokens."""
+        if steps:
+            for first, value, behind in self.fields(at, end, steps[0]):
+                self.close_value(value, behind, steps[1:], (first, behind), around, closers)
+            return
+        self.fields(at, end, "")
+        literal = (start, stop, frozenset(self.bodies[at, end]), self.is_open(at, end))
+        for closer in around:
+            closer.literals.append(literal)
+
+    def is_open(self, at, end):
+        """Whether `...` stands among the declarations between two tokens."""
+        while at < end:
+            if self.tokens[at].text == "...":
+                return True
+            at = self.end_of(at, end) + 1
+        return False
+
+    def close_list(self, at, end, steps, around, closers):
+        count = 0
+        while at < end:
+            stop = self.end_of(at, end)
+            if self.tokens[at].text == "...":
+                if steps[0].isdecimal() and int(steps[0]) >= count or steps[0].startswith("["):
+                    self.close_value(at + 1, stop, steps[1:], (at, stop), around, closers)
+            elif at < stop:
+                if steps[0] == str(count):
+                    self.close_value(at, stop, steps[1:], (at, stop), around, closers)
+                count += 1
+            at = stop + 1
+
+
+@functools.lru_cache(maxsize=1024)
+def fragment_of(name, data):
+    """The fragment of these bytes."""
+    return Fragment(name, data.decode("utf-8", "replace"))
+
+
 def is_state(data):
     return data[:1] == b"\xfe"
 
@@ -159,19 +266,27 @@ def sayings_at(path, inputs):
         if is_state(data):
             found += state_says(name, path)
         elif steps_of(path):
-            found += Fragment(name, data.decode("utf-8", "replace")).find(steps_of(path))
+            found += fragment_of(name, data).find(steps_of(path))
     return found
 
 
 def closers_of(path, inputs):
-    """The nearest uses of a definition or of `close` above a path: what closes the struct there."""
-    above = steps_of(path)[:-1]
-    while above:
-        found = [said for said in sayings_at(".".join(above), inputs) if "close" in said.text or "#" in said.text]
-        if found:
-            return found
-        above.pop()
-    return []
+    """What closes the struct of a label that is not allowed: the field that uses the definition or `close`, and the literals
+    of its body, with the labels that they allow."""
+    above, label = steps_of(path)[:-1], steps_of(path)[-1:]
+    found = []
+    for name, data in inputs:
+        if is_state(data):
+            found += [said for said in state_says(name, ".".join(above)) if closes(said.text, label)]
+        elif above and label:
+            found += fragment_of(name, data).closers(above, label[0])
+    return found
+
+
+def closes(said, label):
+    """Whether what a state says of a place is a closed struct without this label."""
+    closed = re.match(r"close\(\{(.*)\}\)", said)
+    return bool(closed) and not {step_of(token.text) for token in tokens_of(closed[1])}.intersection(label)
 
 
 def causes_of(line, inputs):

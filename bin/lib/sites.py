@@ -1,8 +1,9 @@
-"""A site's file: its lock, what is wrong with it, and how other inputs are merged into it."""
+"""A site's file: its lock, its generation, what is wrong with it, and how other inputs are merged into it."""
 import contextlib
 import fcntl
 import filecmp
 import os
+import shutil
 import signal
 import subprocess
 import tempfile
@@ -32,7 +33,59 @@ def locked(state):
             fcntl.flock(lock, fcntl.LOCK_EX)
             yield
     except OSError as error:
-        raise Fault(f"{state} can't be written: {error.strerror}", 4) from error
+        raise Fault(f"{error.filename or state} can't be written: {error.strerror}", 4) from error
+
+
+@contextlib.contextmanager
+def naming(path):
+    """Lets a failure of the system in here name this file, which a write does not."""
+    try:
+        yield
+    except OSError as error:
+        error.filename = path
+        raise
+
+
+def number_file(state):
+    """The file beside a site's file that has the number of its generation."""
+    return f"{os.path.realpath(state)}.generation"
+
+
+def generation_of(state):
+    """The generation that a site's file belongs to; none, where it was made anew and no carrier has taken it since."""
+    try:
+        with open(number_file(state), encoding="ascii", errors="replace") as file:
+            text = file.read().strip()
+    except FileNotFoundError:
+        return None
+    if not text.isdecimal():
+        raise Fault(f"{number_file(state)} has no number of a generation", 1)
+    return int(text)
+
+
+def keep_generation(state, number):
+    """Writes the number beside the site's file, by a rename."""
+    target = number_file(state)
+    with naming(target), beside(target) as fresh:
+        with open(fresh, "w", encoding="ascii") as file:
+            file.write(f"{number}\n")
+        put_in_place(fresh, target)
+
+
+def check_generation(state, number):
+    """Raises a fault, where the site's file belongs to another generation than this one. A file that belongs to none yet
+    belongs to this one from now on."""
+    if not os.path.exists(state):
+        return
+    with locked(state):
+        known = generation_of(state) if is_there(state) else number
+        if known is None:
+            keep_generation(state, number)
+        elif known < number:
+            raise Fault(f"{state} is of generation {known}, and would bring back into generation {number} what was taken back: make "
+                        f"it anew from the site's fragments: rm {state} && cuestore-add {state} FILE..", 1)
+        elif known > number:
+            raise Fault(f"{state} is of generation {known} already: go on with --generation {known}", 1)
 
 
 def started(words, **streams):
@@ -52,7 +105,7 @@ def written(inputs, path):
             os.killpg(process.pid, signal.SIGKILL)
             return REFUSED.match(b"refused 24 Memory\n")  # it takes more than anybody has
     if process.returncode not in (0, 1):
-        raise Fault(faults or f"{CUESTORE} ended with {process.returncode}", max(process.returncode, 4))
+        raise Fault(why_failed(inputs, path, faults or f"{CUESTORE} ended with {process.returncode}"), max(process.returncode, 4))
     if process.returncode == 0:
         return None
     with open(path, "rb") as file:
@@ -61,6 +114,15 @@ def written(inputs, path):
     if not refused:
         raise Fault(faults or f"{CUESTORE} gave no answer", 1)
     return refused
+
+
+def why_failed(inputs, path, faults):
+    """Why a run failed that read these inputs and wrote this file: it names the one that could not be read or written."""
+    for name in inputs:
+        if not os.access(name, os.R_OK) or os.path.isdir(name):
+            return f"{name} can't be read: {faults}"
+    left = shutil.disk_usage(os.path.dirname(path) or ".").free // 1024
+    return f"its disk has {left} KiB left: {faults}" if left < 64 or left < os.path.getsize(path) // 1024 else faults
 
 
 def is_there(state):
@@ -117,15 +179,17 @@ class Merged:
         self.names, self.refused, self.is_new, self.conflicts = [], [], False, []
 
 
-def merge_into(state, inputs):
+def merge_into(state, inputs, generation=None):
     """Merges inputs, as names and files, into a site's file, by one run of the program: what is refused is left out, and
-    where nothing is new the file is left as it is."""
+    where nothing is new the file is left as it is. A file that is made anew belongs to the generation; without one it belongs
+    to none yet, unless a state is among the inputs."""
     merged, inputs = Merged(), list(inputs)
     with locked(state), contextlib.ExitStack() as stack:
         known = [state] if is_there(state) else []
         target = os.path.realpath(state)
+        stack.enter_context(naming(state))
         fresh = stack.enter_context(beside(target))
-        while inputs and (refused := written([*known, *(path for _, path in inputs)], fresh)):
+        while inputs and (refused := merge_to(state, [*known, *(path for _, path in inputs)], fresh)):
             at = int(refused[4]) - len(known) - 1 if refused[4] else first_refused(known, inputs, fresh)
             if at == -1:
                 raise own_fault(state, refused)
@@ -136,8 +200,28 @@ def merge_into(state, inputs):
         merged.is_new = bool(inputs) and not (known and filecmp.cmp(fresh, target, shallow=False))
         if merged.is_new:
             merged.conflicts = sorted(conflicts_of(fresh) - (conflicts_of(state) if known else set()))
+            if not known and generation is not None:
+                keep_generation(state, generation)
+            elif not known and not any(begins_as_state(path) for _, path in inputs):
+                with contextlib.suppress(FileNotFoundError):
+                    os.unlink(number_file(state))
             put_in_place(fresh, target)
     return merged
+
+
+def merge_to(state, inputs, fresh):
+    """The same as `written`, for a new file that is to take the place of the site's: a fault of a device names that one."""
+    try:
+        return written(inputs, fresh)
+    except Fault as fault:
+        if fault.status != 4:
+            raise
+        raise Fault(f"{state} was not written: {fault}", fault.status) from fault
+
+
+def begins_as_state(path):
+    with open(path, "rb") as file:
+        return file.read(1) == b"\xfe"
 
 
 def first_refused(known, inputs, fresh):
