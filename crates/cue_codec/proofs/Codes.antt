@@ -7,7 +7,9 @@ use Rattle.std.proofs.lemmas.List.Concat.{flat_map-append, flat_map-cons}
 use Rattle.std.proofs.lemmas.Nat.{from_be_bytes-to_be_bytes_2, from_be_bytes-to_be_bytes_4, from_be_bytes-to_be_bytes_8}
 use Rattle.cue_codec.specs.Parts.{counted_bytes}
 use Rattle.cue_codec.specs.Reading.{Begins, BeginsNone, IsRefused, AreCounted}
-use Rattle.cue_codec.specs.Inner.Reading.{AreSo}
+use Rattle.cue_codec.specs.Inner.Reading.{AreSo, IsNoneRead}
+use Rattle.cue_codec.specs.declared.unread.Unread.{Unread}
+use Rattle.cue_codec.specs.declared.unread.Unread.TheVariants.{Memory, Cut, Wrong}
 use Rattle.cue_lattice.specs.declared.refusal.Kind.{Kind}
 
 -- the bytes in front tell the item and the rest
@@ -137,7 +139,27 @@ other_none va v code one weaker a bytes rest begins bad = λ x s h e.
 pub refused_so : (kind : Kind) (A B : Type 0) → (A → B) → IsRefused kind A → IsRefused kind B
 refused_so kind A B f refused = elim refused [ inl memory ↦ inl memory | inr reason ↦ inr (reason.0, f reason.1) ]
 
-pub items_refused : {X : Type 0} (kind : Kind) (v : X → Type 0) (code : X → List ℕ) → OneItem v code → (count : ℕ) (xs : List X) (bytes rest : List ℕ) → AllByRecursion v xs → length xs < count
-    → bytes ≡ flat_map code xs ++ rest → IsRefused kind (BeginsNone v code rest) → IsRefused kind (BeginsNone (AreSo v count) (flat_map code) bytes)
-items_refused kind v code one count xs bytes rest p n e refused =
-    refused_so kind (BeginsNone v code rest) (BeginsNone (AreSo v count) (flat_map code) bytes) (items_none v code one count xs bytes rest p n e) refused
+-- ---- bytes that go on
+
+-- a byte in front stays there
+pub tag_more : (bytes rest : List ℕ) (tag : ℕ) (more : List ℕ) → bytes ≡ tag ∷ rest → bytes ++ more ≡ tag ∷ (rest ++ more)
+tag_more bytes rest tag more e = ap (λ (t : List ℕ). t ++ more) e
+
+-- and so does a front
+pub front_more : (bytes front rest more : List ℕ) → bytes ≡ front ++ rest → bytes ++ more ≡ front ++ (rest ++ more)
+front_more bytes front rest more e = ap (λ (t : List ℕ). t ++ more) e ∙ append_assoc front rest more
+
+pub begins_more : {X : Type 0} (v : X → Type 0) (code : X → List ℕ) (x : X) (bytes rest more : List ℕ) → Begins v code x bytes rest → Begins v code x (bytes ++ more) (rest ++ more)
+begins_more v code x bytes rest more b = record { value = b.value; parts = front_more bytes (code x) rest more b.parts }
+
+-- where one thing is missing whatever follows, so is another, which has it
+pub unread_so : (why : Unread) (P Q : List ℕ → Type 0) (a b : List ℕ) → ((more : List ℕ) → P (a ++ more) → Q (b ++ more)) → IsNoneRead why P a → IsNoneRead why Q b
+unread_so Memory P Q a b f h = tt
+unread_so Cut P Q a b f h = subst Q (append-nil b) (f [] (subst P (sym (append-nil a)) h))
+unread_so Wrong P Q a b f h = λ more. f more (h more)
+
+pub items_unread : {X : Type 0} (why : Unread) (v : X → Type 0) (code : X → List ℕ) → OneItem v code → (count : ℕ) (xs : List X) (bytes rest : List ℕ) → AllByRecursion v xs → length xs < count
+    → bytes ≡ flat_map code xs ++ rest → IsNoneRead why (BeginsNone v code) rest → IsNoneRead why (BeginsNone (AreSo v count) (flat_map code)) bytes
+items_unread why v code one count xs bytes rest p n e =
+    unread_so why (BeginsNone v code) (BeginsNone (AreSo v count) (flat_map code)) rest bytes
+    (λ more. items_none v code one count xs (bytes ++ more) (rest ++ more) p n (front_more bytes (flat_map code xs) rest more e))

@@ -17,7 +17,7 @@ use Rattle.cue_codec.specs.Reading.{Begins, BeginsNone, IsRefused}
 use Rattle.cue_codec.specs.RowBytes.{row_bytes, IsStateRow}
 use Rattle.cue_codec.specs.Inner.Drafting.{RowsRead, entries_from, rows_bytes, IsDrafting, IsNext, NoneNext, BeginsNoRows}
 use Rattle.cue_codec.specs.Inner.Pieces.{HasRows}
-use Rattle.cue_codec.proofs.Codes.{same_fronts}
+use Rattle.cue_codec.proofs.Codes.{begins_more, same_fronts}
 use Rattle.cue_codec.proofs.KnownPlaces.{told_with}
 use Rattle.cue_codec.proofs.ReadStates.{known_next, rows_missing, rows_one_more, rows_unordered, rows_trailing}
 
@@ -52,9 +52,6 @@ module _ {version : Version} {bytes left : List ℕ} {count missing : ℕ} {rows
 pub read_alone : (version : Version) (bytes left : List ℕ) (count missing : ℕ) (rows : List (Place × Row)) (indexes known : List ℕ) → AreRead version bytes left count missing rows indexes known → AreRead version (rows_bytes version rows indexes) [] count missing rows indexes known
 read_alone version bytes left count missing rows indexes known read =
     subst (λ b. AreRead version b [] count missing rows indexes known) (append-nil (rows_bytes version rows indexes)) (read_with [] read)
-
-begins_more : {X : Type 0} (v : X → Type 0) (code : X → List ℕ) (x : X) (bytes rest more : List ℕ) → Begins v code x bytes rest → Begins v code x (bytes ++ more) (rest ++ more)
-begins_more v code x bytes rest more b = record { value = b.value; parts = ap (λ t. t ++ more) b.parts ∙ append_assoc (code x) rest more }
 
 module _ (version : Version) (count left : ℕ) (rows : List (Place × Row)) (indexes known : List ℕ) (read : AreRead version (rows_bytes version rows indexes) [] count left rows indexes known) where
   -- the row that was read is the next
@@ -95,6 +92,12 @@ module _ (version : Version) (count left : ℕ) (rows : List (Place × Row)) (in
   pub next_missing : 0 < left → (bytes : List ℕ) → BeginsNone (IsStateRow version) (row_bytes version) bytes → NoneNext (record { version = version; count = count; left = left; bytes = rows_bytes version rows indexes }) bytes
   next_missing some bytes none = λ more stays.
       rows_missing version (rows_bytes version rows indexes ++ (bytes ++ more)) (bytes ++ more) count left rows indexes known (read_with (bytes ++ more) read) some (stays none)
+
+  -- nor where none stands in front whatever follows
+  pub next_never : 0 < left → (bytes : List ℕ) → ((more : List ℕ) → BeginsNone (IsStateRow version) (row_bytes version) (bytes ++ more)) → BeginsNoRows version count (rows_bytes version rows indexes ++ bytes)
+  next_never some bytes none = λ more.
+      subst (NoRows version count) (sym (append_assoc (rows_bytes version rows indexes) bytes more))
+      (rows_missing version (rows_bytes version rows indexes ++ (bytes ++ more)) (bytes ++ more) count left rows indexes known (read_with (bytes ++ more) read) some (none more))
 
   pub next_unordered : (bytes rest : List ℕ) (place : Place) (fixed : ℕ) (row : Row) → 0 < left → Begins (IsStateRow version) (row_bytes version) (entry_at place fixed row) bytes rest → IsKnown known place → BeginsNoTable Refuses IsRow (rows ++ (place, row) ∷ [])
       → BeginsNoRows version count (rows_bytes version rows indexes ++ bytes)
@@ -168,7 +171,3 @@ pub rows_full : (old new : RowsRead) (bytes rest : List ℕ) → new.version ≡
 rows_full old new bytes rest v c e some trailing =
     same_rows BeginsNoRows old new bytes rest v c e
     (λ more. subst (NoRows new.version new.count) (sym (append_assoc new.bytes rest more)) (trailing (rest ++ more) (λ none. some (nil_from_length rest (omega (arith, ap length none, length-append rest more))))))
-
--- what is refused for another reason than want of memory
-pub not_memory : (kind : Kind) (R : Type 0) → (kind ≡ kinds.Memory → ⊥) → IsRefused kind R → R
-not_memory kind R not refused = ⊎_elim (λ memory. absurd (not memory)) (λ reason. reason.1) refused

@@ -11,8 +11,10 @@ use Rattle.cue_lattice.specs.Scalar.{IsInteger}
 use Rattle.cue_codec.specs.declared.version.Version.{Version}
 use Rattle.cue_codec.specs.declared.version.Version.TheVariants as versions
 use Rattle.cue_codec.specs.Parts.{Lengths, integer_bytes, piece_bytes, text_bytes, most_bytes, index_bytes, lengths_bytes}
+use Rattle.cue_codec.specs.Inner.Reading.{IsNoneRead}
+use Rattle.cue_codec.specs.declared.unread.Unread.{Unread}
 use Rattle.cue_codec.specs.Reading.{Begins, BeginsNone, number_at, IsPiece, IsWord, IsMost, IsIndex, AreWideLengths}
-use Rattle.cue_codec.proofs.Codes.{OneItem, same_fronts, wide16, wide32, wide64, one_number}
+use Rattle.cue_codec.proofs.Codes.{OneItem, front_more, unread_so, same_fronts, wide16, wide32, wide64, one_number}
 
 abbrev pub IsBytes : List ℕ → Type 0
 IsBytes bytes = (i : ℕ) → get_or bytes i 0 < 256
@@ -181,10 +183,12 @@ text_cut bytes rest n fits e lt = λ t r h is.
     let a = after_length bytes rest n fits e t r h is in
     omega (arith, lt, a.0, ap length a.1, length-append t r)
 
-pub text_wrong : (bytes rest front after : List ℕ) (n : ℕ) → IsBytes bytes → Some (n, rest) ≡ number_at w16 bytes → rest ≡ front ++ after → length front ≡ n → (IsUtf8 front → ⊥) → BeginsNone IsWord text_bytes bytes
-text_wrong bytes rest front after n fits e parts len bad = λ t r h is.
-    let a = after_length bytes rest n fits e t r h is in
-    bad (subst IsUtf8 (same_fronts t front r after (a.0 ∙ sym len) (a.1 ∙ parts)).0 h.utf8)
+pub text_wrong : (bytes rest front after more : List ℕ) (n : ℕ) → IsBytes bytes → Some (n, rest) ≡ number_at w16 bytes → rest ≡ front ++ after → length front ≡ n → (IsUtf8 front → ⊥) → BeginsNone IsWord text_bytes (bytes ++ more)
+text_wrong bytes rest front after more n fits e parts len bad = λ t r h is.
+    let found = number_takes w16 (2 ^ 16) read16 bytes n rest fits e in
+    let whole = front_more bytes (to_be_bytes w16 n) rest more found.0 in
+    let a = one_number w16 (2 ^ 16) wide16 (length t) n (t ++ r) (rest ++ more) (let k = h.short in omega (arith, k)) found.1 (sym (text_parts t r) ∙ sym is ∙ whole) in
+    bad (subst IsUtf8 (same_fronts t front r (after ++ more) (a.0 ∙ sym len) (a.1 ∙ front_more rest front after more parts)).0 h.utf8)
 
 pub text_found : (bytes rest front after text : List ℕ) (n : ℕ) → IsBytes bytes → Some (n, rest) ≡ number_at w16 bytes → rest ≡ front ++ after → length front ≡ n → IsUtf8 front → text ≡ front → Begins IsWord text_bytes text bytes after
 text_found bytes rest front after text n fits e parts len good same =
@@ -276,19 +280,22 @@ lengths_short version bytes none = λ a r h e.
     let rest = most_bytes a.1 ++ (index_bytes version a.2 ++ r) in
     omega (arith, number_missing w32 bytes none, ap length (e ∙ lengths_parts version a r), length-append (to_be_bytes w32 a.0) rest, wide32.len a.0)
 
-behind_least : (version : Version) (bytes rest : List ℕ) (least : ℕ) → IsBytes bytes → Some (least, rest) ≡ number_at w32 bytes → (a : Lengths) (r : List ℕ) → AreWideLengths version a → bytes ≡ lengths_bytes version a ++ r → rest ≡ most_bytes a.1 ++ (index_bytes version a.2 ++ r)
-behind_least version bytes rest least fits is a r h e =
-    let found = number_takes w32 (2 ^ 32) read32 bytes least rest fits is in
-    sym (one_number w32 (2 ^ 32) wide32 a.0 least (most_bytes a.1 ++ (index_bytes version a.2 ++ r)) rest h.0 found.1 (sym (lengths_parts version a r) ∙ sym e ∙ found.0)).1
+behind_least : (version : Version) (bytes rest : List ℕ) (least : ℕ) → least < 2 ^ 32 → bytes ≡ to_be_bytes w32 least ++ rest → (a : Lengths) (r : List ℕ) → AreWideLengths version a → bytes ≡ lengths_bytes version a ++ r → rest ≡ most_bytes a.1 ++ (index_bytes version a.2 ++ r)
+behind_least version bytes rest least small is a r h e =
+    sym (one_number w32 (2 ^ 32) wide32 a.0 least (most_bytes a.1 ++ (index_bytes version a.2 ++ r)) rest h.0 small (sym (lengths_parts version a r) ∙ sym e ∙ is)).1
 
-pub lengths_cut : (version : Version) (bytes rest : List ℕ) (least : ℕ) → IsBytes bytes → Some (least, rest) ≡ number_at w32 bytes → BeginsNone IsMost most_bytes rest → BeginsNone (AreWideLengths version) (lengths_bytes version) bytes
-lengths_cut version bytes rest least fits is none = λ a r h e.
-    none a.1 (index_bytes version a.2 ++ r) h.1 (behind_least version bytes rest least fits is a r h e)
+pub lengths_cut : (version : Version) (why : Unread) (bytes rest : List ℕ) (least : ℕ) → IsBytes bytes → Some (least, rest) ≡ number_at w32 bytes → IsNoneRead why (BeginsNone IsMost most_bytes) rest → IsNoneRead why (BeginsNone (AreWideLengths version) (lengths_bytes version)) bytes
+lengths_cut version why bytes rest least fits is =
+    let found = number_takes w32 (2 ^ 32) read32 bytes least rest fits is in
+    unread_so why (BeginsNone IsMost most_bytes) (BeginsNone (AreWideLengths version) (lengths_bytes version)) rest bytes
+    (λ more none a r h e.
+    none a.1 (index_bytes version a.2 ++ r) h.1 (behind_least version (bytes ++ more) (rest ++ more) least found.1 (front_more bytes (to_be_bytes w32 least) rest more found.0) a r h e))
 
 pub lengths_end : (version : Version) (bytes rest after : List ℕ) (least : ℕ) (most : Option ℕ) → IsBytes bytes → Some (least, rest) ≡ number_at w32 bytes → Begins IsMost most_bytes most rest after → BeginsNone (IsIndex version) (index_bytes version) after
     → BeginsNone (AreWideLengths version) (lengths_bytes version) bytes
 lengths_end version bytes rest after least most fits is b none = λ a r h e.
-    let f = one_most most a.1 after (index_bytes version a.2 ++ r) b.value h.1 (sym b.parts ∙ behind_least version bytes rest least fits is a r h e) in
+    let found = number_takes w32 (2 ^ 32) read32 bytes least rest fits is in
+    let f = one_most most a.1 after (index_bytes version a.2 ++ r) b.value h.1 (sym b.parts ∙ behind_least version bytes rest least found.1 found.0 a r h e) in
     none a.2 r h.2 f.1
 
 pub lengths_found : (version : Version) (bytes rest after end : List ℕ) (least : ℕ) (most : Option ℕ) (fixed : ℕ) → IsBytes bytes → Some (least, rest) ≡ number_at w32 bytes → Begins IsMost most_bytes most rest after → Begins (IsIndex version) (index_bytes version) fixed after end

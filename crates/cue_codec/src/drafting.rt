@@ -12,6 +12,7 @@ ghost use Rattle.cue_codec.specs.Reading.{IsRefused};
 
 use crate::row_reader::RowReader;
 use crate::telling::tells;
+use crate::unread::Unread;
 use crate::version::Version;
 use cue_lattice::Kind;
 use cue_row::Row;
@@ -101,8 +102,9 @@ impl Drafting {
         self.left == 0
     }
 
-    /// Adds the row that the reader reads next, and says whether one stands there: where none does,
-    /// all is left as it is. After a refusal nothing is said of the rows.
+    /// Adds the row that the reader reads next, and says whether a whole one is there: where the
+    /// bytes end before it does, all is left as it is. Bytes with which no row begins are refused as
+    /// `NotState` at once. After a refusal nothing is said of the rows.
     pub fn next(&mut self, reader: &mut RowReader) -> Result<bool, Kind>
         requires { 0 < self.old.left }
         ensures ok { IfOk result (HasNext self.old reader.old self.new reader.new) }
@@ -112,9 +114,10 @@ impl Drafting {
         let before = mem::replace(&mut self.place, Place::root(self.alloc));
         let (place, fixed, row) = match reader.read(self.alloc, self.version, before, &self.known) {
             Ok(row) => row,
-            Err(kind) => match kind {
-                Kind::Memory => return Err(Kind::Memory),
-                _ => return Ok(false),
+            Err(why) => match why {
+                Unread::Memory => return Err(Kind::Memory),
+                Unread::Cut => return Ok(false),
+                Unread::Wrong => return Err(Kind::NotState),
             },
         };
         let Ok(()) = self.indexes.reserve(1) else {

@@ -20,6 +20,7 @@ mod state_reader;
 mod state_writer;
 mod telling;
 mod unfinished;
+mod unread;
 mod version;
 mod writing;
 

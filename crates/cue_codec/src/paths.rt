@@ -11,14 +11,15 @@ ghost use Rattle.cue_codec.specs.declared.version.Version.{Version as Versions};
 ghost use Rattle.cue_codec.specs.Entry.{at, told, told_place};
 ghost use Rattle.cue_codec.specs.Known.{slot_with, IsKnown};
 ghost use Rattle.cue_codec.specs.Parts.{text_bytes, step_bytes, path_bytes};
-ghost use Rattle.cue_codec.specs.Reading.{Begins, BeginsNone, IsRefused};
-ghost use Rattle.cue_codec.specs.Inner.Reading.{AreSo};
+ghost use Rattle.cue_codec.specs.Reading.{Begins, BeginsNone};
+ghost use Rattle.cue_codec.specs.Inner.Reading.{AreSo, IsNoneRead};
 ghost use Rattle.cue_codec.specs.StateRow.{IsStateStep, IsStatePath};
 
 use crate::lists::one_text;
 use crate::reading::{u16_at, u32_at};
+use crate::unread::Unread;
 use crate::version::Version;
-use cue_lattice::{Kind, STEP_LIMIT, Text};
+use cue_lattice::{STEP_LIMIT, Text};
 use cue_row::Step;
 use cue_table::{Place, Slot};
 use std::alloc::Global;
@@ -29,15 +30,15 @@ fn step_at(
     version: Version,
     number: u64,
     bytes: &[u8],
-) -> Result<(Slot, &[u8]), Kind>
+) -> Result<(Slot, &[u8]), Unread>
     ensures ok { IfOk result (λ x. Begins (IsStateStep version) (step_bytes version)
         (told (slot_of x.0)) bytes.now x.1.now) }
     ensures known { IfOk result (λ x. slot_of x.0 ≡ slot_with number (told (slot_of x.0))) }
-    ensures refused { IfErr result (λ kind. IsRefused kind
-        (BeginsNone (IsStateStep version) (step_bytes version) bytes.now)) }
+    ensures refused { IfErr result (λ why. IsNoneRead why
+        (BeginsNone (IsStateStep version) (step_bytes version)) bytes.now) }
 {
     let Some((tag, rest)) = bytes.split_first() else {
-        return Err(Kind::NotState);
+        return Err(Unread::Cut);
     };
     match *tag {
         0 => {
@@ -46,15 +47,15 @@ fn step_at(
         }
         1 => {
             let Some((number, rest)) = u32_at(rest) else {
-                return Err(Kind::NotState);
+                return Err(Unread::Cut);
             };
             Ok((Slot::At(Step::Index(number)), rest))
         }
         2 => match version {
-            Version::First => Err(Kind::NotState),
+            Version::First => Err(Unread::Wrong),
             Version::Second => Ok((Slot::From(number), rest)),
         },
-        3..=u8::MAX => Err(Kind::NotState),
+        3..=u8::MAX => Err(Unread::Wrong),
     }
 }
 
@@ -147,16 +148,15 @@ fn each_step<'a>(
     known: &[u64],
     count: u8,
     bytes: &'a [u8],
-) -> Result<(Vec<Slot>, &'a [u8]), Kind>
+) -> Result<(Vec<Slot>, &'a [u8]), Unread>
     requires steps { AllByRecursion (IsStateStep version) (told_place (map slot_of before.items)) }
     requires known { IsKnown known.now (map slot_of before.items) }
     requires deep { count ≤ length known.now }
     ensures ok { IfOk result (λ x. Begins (AreSo (IsStateStep version) count)
         (flat_map (step_bytes version)) (told_place (map slot_of x.0.items)) bytes.now x.1.now) }
     ensures numbers { IfOk result (λ x. IsKnown known.now (map slot_of x.0.items)) }
-    ensures refused { IfErr result (λ kind. IsRefused kind
-        (BeginsNone (AreSo (IsStateStep version) count) (flat_map (step_bytes version))
-        bytes.now)) }
+    ensures refused { IfErr result (λ why. IsNoneRead why
+        (BeginsNone (AreSo (IsStateStep version) count) (flat_map (step_bytes version))) bytes.now) }
 {
     let mut slots = before;
     let (len, behind) = shared(slots.as_slice(), count, bytes);
@@ -165,7 +165,7 @@ fn each_step<'a>(
     while slots.len() < count as usize {
         let (slot, after) = step_at(alloc, version, known[slots.len()], rest)?;
         let Ok(()) = slots.push(slot) else {
-            return Err(Kind::Memory);
+            return Err(Unread::Memory);
         };
         rest = after;
     }
@@ -181,26 +181,26 @@ pub fn path_at<'a>(
     before: Place,
     known: &[u64],
     bytes: &'a [u8],
-) -> Result<(Place, &'a [u8]), Kind>
+) -> Result<(Place, &'a [u8]), Unread>
     requires steps { IsStatePath version (told_place before) }
     requires known { IsKnown known.now before }
     requires deep { step_limit < length known.now }
     ensures ok { IfOk result (λ x. Begins (IsStatePath version) (path_bytes version)
         (told_place x.0) bytes.now x.1.now) }
     ensures numbers { IfOk result (λ x. IsKnown known.now x.0) }
-    ensures refused { IfErr result (λ kind. IsRefused kind
-        (BeginsNone (IsStatePath version) (path_bytes version) bytes.now)) }
+    ensures refused { IfErr result (λ why. IsNoneRead why
+        (BeginsNone (IsStatePath version) (path_bytes version)) bytes.now) }
 {
     let Some((count, rest)) = bytes.split_first() else {
-        return Err(Kind::NotState);
+        return Err(Unread::Cut);
     };
     let asked = *count as usize;
     if asked > STEP_LIMIT {
-        return Err(Kind::NotState);
+        return Err(Unread::Wrong);
     }
     let (slots, rest) = each_step(alloc, version, before.into_slots(), known, *count, rest)?;
     let Some(place) = Place::new(slots) else {
-        return Err(Kind::NotState);
+        return Err(Unread::Wrong);
     };
     Ok((place, rest))
 }

@@ -1,6 +1,6 @@
 //! The parts of a row, read from the front of the bytes.
 
-ghost use Rattle.std.specs.Prelude.{◌≡◌, ◌<◌, ◌++◌, length, IfSome, IfNone};
+ghost use Rattle.std.specs.Prelude.{◌≡◌, ◌<◌, ◌++◌, length, IfSome, IfNone, IfOk, IfErr};
 ghost use Rattle.std.specs.Int.{w16, w32, w64};
 ghost use Rattle.std.specs.Option.{option_map};
 ghost use Rattle.cue_lattice.specs.Scalar.{IsInteger};
@@ -8,7 +8,9 @@ ghost use Rattle.cue_codec.specs.Parts.{integer_bytes, piece_bytes, text_bytes, 
 ghost use Rattle.cue_codec.specs.Parts.{index_bytes, lengths_bytes};
 ghost use Rattle.cue_codec.specs.Reading.{Begins, BeginsNone, IsPiece, IsWord, AreWideLengths};
 ghost use Rattle.cue_codec.specs.Reading.{IsIndex, IsMost, number_at};
+ghost use Rattle.cue_codec.specs.Inner.Reading.{IsNoneRead};
 
+use crate::unread::Unread;
 use crate::version::Version;
 
 #[tactic(auto, unfolding(crate::specs::Reading::number_at))]
@@ -65,15 +67,20 @@ fn front_at(len: usize, bytes: &[u8]) -> Option<(&[u8], &[u8])>
 }
 
 /// A text after its length.
-pub fn text_at(bytes: &[u8]) -> Option<(&str, &[u8])>
-    ensures some { IfSome result (λ x. Begins IsWord text_bytes x.0.now bytes.now x.1.now) }
-    ensures none { IfNone result (BeginsNone IsWord text_bytes bytes.now) }
+pub fn text_at(bytes: &[u8]) -> Result<(&str, &[u8]), Unread>
+    ensures ok { IfOk result (λ x. Begins IsWord text_bytes x.0.now bytes.now x.1.now) }
+    ensures refused { IfErr result (λ why. IsNoneRead why
+        (BeginsNone IsWord text_bytes) bytes.now) }
 {
-    let (len, rest) = u16_at(bytes)?;
-    let (text, rest) = front_at(len as usize, rest)?;
+    let Some((len, rest)) = u16_at(bytes) else {
+        return Err(Unread::Cut);
+    };
+    let Some((text, rest)) = front_at(len as usize, rest) else {
+        return Err(Unread::Cut);
+    };
     match str::from_utf8(text) {
-        Ok(text) => Some((text, rest)),
-        Err(_) => None,
+        Ok(text) => Ok((text, rest)),
+        Err(_) => Err(Unread::Wrong),
     }
 }
 
@@ -96,18 +103,23 @@ pub fn flags_of(byte: u8) -> Option<(bool, bool, bool)>
 }
 
 /// The greatest length, where there is one.
-fn most_at(bytes: &[u8]) -> Option<(Option<u32>, &[u8])>
-    ensures some { IfSome result (λ x. Begins IsMost most_bytes x.0 bytes.now x.1.now) }
-    ensures none { IfNone result (BeginsNone IsMost most_bytes bytes.now) }
+fn most_at(bytes: &[u8]) -> Result<(Option<u32>, &[u8]), Unread>
+    ensures ok { IfOk result (λ x. Begins IsMost most_bytes x.0 bytes.now x.1.now) }
+    ensures refused { IfErr result (λ why. IsNoneRead why
+        (BeginsNone IsMost most_bytes) bytes.now) }
 {
-    let (tag, rest) = bytes.split_first()?;
+    let Some((tag, rest)) = bytes.split_first() else {
+        return Err(Unread::Cut);
+    };
     match *tag {
-        0 => Some((None, rest)),
+        0 => Ok((None, rest)),
         1 => {
-            let (most, rest) = u32_at(rest)?;
-            Some((Some(most), rest))
+            let Some((most, rest)) = u32_at(rest) else {
+                return Err(Unread::Cut);
+            };
+            Ok((Some(most), rest))
         }
-        2..=u8::MAX => None,
+        2..=u8::MAX => Err(Unread::Wrong),
     }
 }
 
@@ -128,14 +140,21 @@ fn index_at(version: Version, bytes: &[u8]) -> Option<(u64, &[u8])>
 }
 
 /// The least and the greatest length, and from which index on the elements are alike.
-pub fn lengths_at(version: Version, bytes: &[u8]) -> Option<((u32, Option<u32>, u64), &[u8])>
-    ensures some { IfSome result (λ x. Begins (AreWideLengths version) (lengths_bytes version) x.0
+pub fn lengths_at(
+    version: Version,
+    bytes: &[u8],
+) -> Result<((u32, Option<u32>, u64), &[u8]), Unread>
+    ensures ok { IfOk result (λ x. Begins (AreWideLengths version) (lengths_bytes version) x.0
         bytes.now x.1.now) }
-    ensures none { IfNone result
-        (BeginsNone (AreWideLengths version) (lengths_bytes version) bytes.now) }
+    ensures refused { IfErr result (λ why. IsNoneRead why
+        (BeginsNone (AreWideLengths version) (lengths_bytes version)) bytes.now) }
 {
-    let (least, rest) = u32_at(bytes)?;
+    let Some((least, rest)) = u32_at(bytes) else {
+        return Err(Unread::Cut);
+    };
     let (most, rest) = most_at(rest)?;
-    let (fixed, rest) = index_at(version, rest)?;
-    Some(((least, most, fixed), rest))
+    let Some((fixed, rest)) = index_at(version, rest) else {
+        return Err(Unread::Cut);
+    };
+    Ok(((least, most, fixed), rest))
 }

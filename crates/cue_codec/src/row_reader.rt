@@ -4,14 +4,15 @@ ghost use Rattle.std.specs.Prelude.{◌≡◌, ◌↔◌, ◌<◌, [], length, I
 ghost use Rattle.cue_lattice.specs.Limits.{step_limit};
 ghost use Rattle.cue_codec.specs.Entry.{told_place, entry_at};
 ghost use Rattle.cue_codec.specs.Known.{IsKnown};
-ghost use Rattle.cue_codec.specs.Reading.{Begins, BeginsNone, IsRefused};
+ghost use Rattle.cue_codec.specs.Reading.{Begins, BeginsNone};
+ghost use Rattle.cue_codec.specs.Inner.Reading.{IsNoneRead};
 ghost use Rattle.cue_codec.specs.RowBytes.{row_bytes, IsStateRow};
 ghost use Rattle.cue_codec.specs.StateRow.{IsStatePath};
 
 use crate::paths::path_at;
 use crate::rows::parts_at;
+use crate::unread::Unread;
 use crate::version::Version;
-use cue_lattice::Kind;
 use cue_row::{Level, Row};
 use cue_table::Place;
 use std::alloc::Global;
@@ -26,22 +27,22 @@ fn row_at<'a>(
     before: Place,
     known: &[u64],
     bytes: &'a [u8],
-) -> Result<((Place, u64, Row), &'a [u8]), Kind>
+) -> Result<((Place, u64, Row), &'a [u8]), Unread>
     requires steps { IsStatePath version (told_place before) }
     requires known { IsKnown known.now before }
     requires deep { step_limit < length known.now }
     ensures ok { IfOk result (λ x. Begins (IsStateRow version) (row_bytes version)
         (entry_at x.0.0 x.0.1 x.0.2) bytes.now x.1.now) }
     ensures numbers { IfOk result (λ x. IsKnown known.now x.0.0) }
-    ensures refused { IfErr result (λ kind. IsRefused kind
-        (BeginsNone (IsStateRow version) (row_bytes version) bytes.now)) }
+    ensures refused { IfErr result (λ why. IsNoneRead why
+        (BeginsNone (IsStateRow version) (row_bytes version)) bytes.now) }
 {
     let (place, behind) = path_at(alloc, version, before, known, bytes)?;
     let Some((number, rest)) = behind.split_first() else {
-        return Err(Kind::NotState);
+        return Err(Unread::Cut);
     };
     let Some(level) = Level::from_number(*number) else {
-        return Err(Kind::NotState);
+        return Err(Unread::Wrong);
     };
     let (row, fixed, rest) = parts_at(alloc, version, level, rest)?;
     Ok(((place, fixed, row), rest))
@@ -85,24 +86,23 @@ impl<'a> RowReader<'a> {
 
     /// The row whose bytes in this version stand in front, with its place and from which index on
     /// its elements are alike; the reader goes on after it. The place is made of the one before it,
-    /// and a rest on it begins at the index that is known of the row above. Where no row's bytes
-    /// stand there it is refused as `NotState`, and where memory ran out as `Memory`; the reader is
-    /// then as before. Room is made only for what was read.
+    /// and a rest on it begins at the index that is known of the row above. Where no row is read the
+    /// reader is as before. Room is made only for what was read.
     pub fn read(
         &mut self,
         alloc: Global,
         version: Version,
         before: Place,
         known: &[u64],
-    ) -> Result<(Place, u64, Row), Kind>
+    ) -> Result<(Place, u64, Row), Unread>
         requires steps { IsStatePath version (told_place before) }
         requires known { IsKnown known.now before }
         requires deep { step_limit < length known.now }
         ensures ok { IfOk result (λ x. Begins (IsStateRow version) (row_bytes version)
             (entry_at x.0 x.1 x.2) self.old self.new) }
         ensures numbers { IfOk result (λ x. IsKnown known.now x.0) }
-        ensures refused { IfErr result (λ kind. IsRefused kind
-            (BeginsNone (IsStateRow version) (row_bytes version) self.old)) }
+        ensures refused { IfErr result (λ why. IsNoneRead why
+            (BeginsNone (IsStateRow version) (row_bytes version)) self.old) }
         ensures unchanged { OnErr result (self.new ≡ self.old) }
     {
         let (row, rest) = row_at(alloc, version, before, known, self.rest)?;

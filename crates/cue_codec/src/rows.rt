@@ -5,7 +5,8 @@ ghost use Rattle.std.specs.Prelude.{◌≡◌, IfOk, IfErr, IfSome};
 ghost use Rattle.cue_scalars.specs.declared.scalar_set.ScalarSet.{ScalarSet as Set};
 ghost use Rattle.cue_row.specs.Kept.{text_set};
 ghost use Rattle.cue_codec.specs.Parts.{set_bytes, labels_bytes, lengths_bytes};
-ghost use Rattle.cue_codec.specs.Reading.{Begins, BeginsNone, IsRefused, AreWideLengths};
+ghost use Rattle.cue_codec.specs.Reading.{Begins, BeginsNone, AreWideLengths};
+ghost use Rattle.cue_codec.specs.Inner.Reading.{IsNoneRead};
 ghost use Rattle.cue_codec.specs.StateRow.{IsStateSet, AreStateLabels};
 ghost use Rattle.cue_codec.specs.RowBytes.{scalar, struct, list, nothing, scalars_bytes, Reads};
 ghost use Rattle.cue_codec.specs.RowBytes.{left_out_bytes, parts_bytes, is_empty_set};
@@ -13,8 +14,9 @@ ghost use Rattle.cue_codec.specs.RowBytes.{AreScalars, AreLeftOut, IsStateParts}
 
 use crate::reading::lengths_at;
 use crate::sets::{labels_at, lone_text_at, set_at};
+use crate::unread::Unread;
 use crate::version::Version;
-use cue_lattice::{Kind, Text};
+use cue_lattice::Text;
 use cue_row::{Level, Row, Scalars};
 use std::alloc::Global;
 
@@ -51,46 +53,46 @@ fn usual_text_at(bytes: &[u8]) -> Option<(&str, &[u8])>
 
 /// Some scalar, and the usual ones. Where their bytes are the same, the set is read once, and a
 /// single text without a list.
-fn scalar_at(alloc: Global, level: Level, bytes: &[u8]) -> Result<(Row, u64, &[u8]), Kind>
+fn scalar_at(alloc: Global, level: Level, bytes: &[u8]) -> Result<(Row, u64, &[u8]), Unread>
     ensures ok { IfOk result
         (λ x. Reads (λ sets. scalar sets.0 sets.1) AreScalars scalars_bytes level x.0 x.1
         bytes.now x.2.now) }
-    ensures refused { IfErr result (λ kind. IsRefused kind
-        (BeginsNone AreScalars scalars_bytes bytes.now)) }
+    ensures refused { IfErr result (λ why. IsNoneRead why
+        (BeginsNone AreScalars scalars_bytes) bytes.now) }
 {
     if let Some((text, rest)) = usual_text_at(bytes) {
         let Ok(text) = Text::from_str(alloc, text) else {
-            return Err(Kind::Memory);
+            return Err(Unread::Memory);
         };
         return Ok((Row::of_text(level, text), 0, rest));
     }
     let (value, middle) = set_at(alloc, bytes)?;
     if is_empty(&Scalars::of(&value)) {
-        return Err(Kind::NotState);
+        return Err(Unread::Wrong);
     }
     if let Some(rest) = after_again(bytes, middle) {
         let Ok(row) = Row::of_all_usual(alloc, level, value) else {
-            return Err(Kind::Memory);
+            return Err(Unread::Memory);
         };
         return Ok((row, 0, rest));
     }
     let (usual, rest) = set_at(alloc, middle)?;
     let Ok(row) = Row::of_scalars(alloc, level, value, usual) else {
-        return Err(Kind::Memory);
+        return Err(Unread::Memory);
     };
     Ok((row, 0, rest))
 }
 
 /// A struct with certain labels.
-fn struct_at(alloc: Global, level: Level, bytes: &[u8]) -> Result<(Row, u64, &[u8]), Kind>
+fn struct_at(alloc: Global, level: Level, bytes: &[u8]) -> Result<(Row, u64, &[u8]), Unread>
     ensures ok { IfOk result
         (λ x. Reads struct AreStateLabels labels_bytes level x.0 x.1 bytes.now x.2.now) }
-    ensures refused { IfErr result (λ kind. IsRefused kind
-        (BeginsNone AreStateLabels labels_bytes bytes.now)) }
+    ensures refused { IfErr result (λ why. IsNoneRead why
+        (BeginsNone AreStateLabels labels_bytes) bytes.now) }
 {
     let (labels, rest) = labels_at(alloc, bytes)?;
     let Ok(row) = Row::of_struct(alloc, level, labels) else {
-        return Err(Kind::Memory);
+        return Err(Unread::Memory);
     };
     Ok((row, 0, rest))
 }
@@ -101,18 +103,16 @@ fn list_at(
     version: Version,
     level: Level,
     bytes: &[u8],
-) -> Result<(Row, u64, &[u8]), Kind>
+) -> Result<(Row, u64, &[u8]), Unread>
     ensures ok { IfOk result
         (λ x. Reads list (AreWideLengths version) (lengths_bytes version) level x.0 x.1
         bytes.now x.2.now) }
-    ensures refused { IfErr result (λ kind. IsRefused kind
-        (BeginsNone (AreWideLengths version) (lengths_bytes version) bytes.now)) }
+    ensures refused { IfErr result (λ why. IsNoneRead why
+        (BeginsNone (AreWideLengths version) (lengths_bytes version)) bytes.now) }
 {
-    let Some(((least, most, fixed), rest)) = lengths_at(version, bytes) else {
-        return Err(Kind::NotState);
-    };
+    let ((least, most, fixed), rest) = lengths_at(version, bytes)?;
     let Ok(row) = Row::of_list(alloc, level, least, most) else {
-        return Err(Kind::Memory);
+        return Err(Unread::Memory);
     };
     Ok((row, fixed, rest))
 }
@@ -123,19 +123,17 @@ fn nothing_at(
     version: Version,
     level: Level,
     bytes: &[u8],
-) -> Result<(Row, u64, &[u8]), Kind>
+) -> Result<(Row, u64, &[u8]), Unread>
     ensures ok { IfOk result
         (λ x. Reads (λ parts. nothing parts.0 parts.1) (AreLeftOut version) (left_out_bytes version)
         level x.0 x.1 bytes.now x.2.now) }
-    ensures refused { IfErr result (λ kind. IsRefused kind
-        (BeginsNone (AreLeftOut version) (left_out_bytes version) bytes.now)) }
+    ensures refused { IfErr result (λ why. IsNoneRead why
+        (BeginsNone (AreLeftOut version) (left_out_bytes version)) bytes.now) }
 {
     let (labels, middle) = labels_at(alloc, bytes)?;
-    let Some(((least, most, fixed), rest)) = lengths_at(version, middle) else {
-        return Err(Kind::NotState);
-    };
+    let ((least, most, fixed), rest) = lengths_at(version, middle)?;
     let Ok(row) = Row::of_nothing(alloc, level, labels, least, most) else {
-        return Err(Kind::Memory);
+        return Err(Unread::Memory);
     };
     Ok((row, fixed, rest))
 }
@@ -146,15 +144,15 @@ pub fn parts_at(
     version: Version,
     level: Level,
     bytes: &[u8],
-) -> Result<(Row, u64, &[u8]), Kind>
+) -> Result<(Row, u64, &[u8]), Unread>
     ensures ok { IfOk result
         (λ x. Reads (λ parts. parts) (IsStateParts version) (parts_bytes version) level x.0 x.1
         bytes.now x.2.now) }
-    ensures refused { IfErr result (λ kind. IsRefused kind
-        (BeginsNone (IsStateParts version) (parts_bytes version) bytes.now)) }
+    ensures refused { IfErr result (λ why. IsNoneRead why
+        (BeginsNone (IsStateParts version) (parts_bytes version)) bytes.now) }
 {
     let Some((tag, rest)) = bytes.split_first() else {
-        return Err(Kind::NotState);
+        return Err(Unread::Cut);
     };
     match *tag {
         0 => Ok((Row::of_anything(level), 0, rest)),
@@ -162,6 +160,6 @@ pub fn parts_at(
         2 => struct_at(alloc, level, rest),
         3 => list_at(alloc, version, level, rest),
         4 => nothing_at(alloc, version, level, rest),
-        5..=u8::MAX => Err(Kind::NotState),
+        5..=u8::MAX => Err(Unread::Wrong),
     }
 }

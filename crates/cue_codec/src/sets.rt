@@ -5,28 +5,30 @@ ghost use Rattle.std.specs.Int.{w64, to_be_bytes};
 ghost use Rattle.cue_row.specs.Kept.{text_set};
 ghost use Rattle.cue_codec.specs.Parts.{bit, counted_bytes, piece_bytes, text_set_bytes, set_bytes};
 ghost use Rattle.cue_codec.specs.Parts.{labels_bytes};
-ghost use Rattle.cue_codec.specs.Reading.{Begins, BeginsNone, IsRefused};
+ghost use Rattle.cue_codec.specs.Reading.{Begins, BeginsNone};
+ghost use Rattle.cue_codec.specs.Inner.Reading.{IsNoneRead};
 ghost use Rattle.cue_codec.specs.StateRow.{IsStateIntegers, IsStateTexts, IsStateSet};
 ghost use Rattle.cue_codec.specs.StateRow.{AreStateLabels};
 
 use crate::lists::{pieces_at, texts_at};
 use crate::reading::{flags_of, piece_at, text_at, u64_at};
-use cue_lattice::{Kind, Narrow};
+use crate::unread::Unread;
+use cue_lattice::Narrow;
 use cue_row::Labels;
 use cue_scalars::ScalarSet;
 use cue_sets::{IntSet, TextSet};
 use std::alloc::Global;
 
 /// A set of integers.
-fn int_set_at(alloc: Global, bytes: &[u8]) -> Result<(IntSet, &[u8]), Kind>
+fn int_set_at(alloc: Global, bytes: &[u8]) -> Result<(IntSet, &[u8]), Unread>
     ensures ok { IfOk result (λ x. Begins IsStateIntegers
         (counted_bytes piece_bytes) x.0 bytes.now x.1.now) }
-    ensures refused { IfErr result (λ kind. IsRefused kind
-        (BeginsNone IsStateIntegers (counted_bytes piece_bytes) bytes.now)) }
+    ensures refused { IfErr result (λ why. IsNoneRead why
+        (BeginsNone IsStateIntegers (counted_bytes piece_bytes)) bytes.now) }
 {
     let (pieces, rest) = pieces_at(alloc, bytes)?;
     let Some(set) = IntSet::from_pieces(pieces) else {
-        return Err(Kind::NotState);
+        return Err(Unread::Wrong);
     };
     set.known();
     Ok((set, rest))
@@ -45,20 +47,20 @@ fn bit_of(byte: u8) -> Option<bool>
 }
 
 /// A set of texts.
-fn text_set_at(alloc: Global, bytes: &[u8]) -> Result<(TextSet, &[u8]), Kind>
+fn text_set_at(alloc: Global, bytes: &[u8]) -> Result<(TextSet, &[u8]), Unread>
     ensures ok { IfOk result (λ x. Begins IsStateTexts text_set_bytes x.0 bytes.now x.1.now) }
-    ensures refused { IfErr result (λ kind. IsRefused kind
-        (BeginsNone IsStateTexts text_set_bytes bytes.now)) }
+    ensures refused { IfErr result (λ why. IsNoneRead why
+        (BeginsNone IsStateTexts text_set_bytes) bytes.now) }
 {
     let Some((tag, rest)) = bytes.split_first() else {
-        return Err(Kind::NotState);
+        return Err(Unread::Cut);
     };
     let Some(all_but) = bit_of(*tag) else {
-        return Err(Kind::NotState);
+        return Err(Unread::Wrong);
     };
     let (texts, rest) = texts_at(alloc, rest)?;
     let Some(set) = TextSet::from_texts(all_but, texts) else {
-        return Err(Kind::NotState);
+        return Err(Unread::Wrong);
     };
     set.known();
     Ok((set, rest))
@@ -108,24 +110,26 @@ pub fn lone_text_at(bytes: &[u8]) -> Option<(&str, &[u8])>
 {
     let rest = after_count(0, bytes)?;
     let rest = after_count(1, rest)?;
-    let (text, rest) = text_at(rest)?;
+    let Ok((text, rest)) = text_at(rest) else {
+        return None;
+    };
     Some((text, rest))
 }
 
 /// A set of scalars.
-pub fn set_at(alloc: Global, bytes: &[u8]) -> Result<(ScalarSet, &[u8]), Kind>
+pub fn set_at(alloc: Global, bytes: &[u8]) -> Result<(ScalarSet, &[u8]), Unread>
     ensures ok { IfOk result (λ x. Begins IsStateSet set_bytes x.0 bytes.now x.1.now) }
-    ensures refused { IfErr result (λ kind. IsRefused kind
-        (BeginsNone IsStateSet set_bytes bytes.now)) }
+    ensures refused { IfErr result (λ why. IsNoneRead why
+        (BeginsNone IsStateSet set_bytes) bytes.now) }
 {
     if let Some(found) = piece_set_at(alloc, bytes) {
         return Ok(found);
     }
     let Some((tag, rest)) = bytes.split_first() else {
-        return Err(Kind::NotState);
+        return Err(Unread::Cut);
     };
     let Some((null, no, yes)) = flags_of(*tag) else {
-        return Err(Kind::NotState);
+        return Err(Unread::Wrong);
     };
     let (ints, rest) = int_set_at(alloc, rest)?;
     let (texts, rest) = text_set_at(alloc, rest)?;
@@ -140,23 +144,23 @@ pub fn set_at(alloc: Global, bytes: &[u8]) -> Result<(ScalarSet, &[u8]), Kind>
 }
 
 /// Which labels may stand: all, or the listed ones.
-pub fn labels_at(alloc: Global, bytes: &[u8]) -> Result<(Labels, &[u8]), Kind>
+pub fn labels_at(alloc: Global, bytes: &[u8]) -> Result<(Labels, &[u8]), Unread>
     ensures ok { IfOk result (λ x. Begins AreStateLabels labels_bytes x.0 bytes.now x.1.now) }
-    ensures refused { IfErr result (λ kind. IsRefused kind
-        (BeginsNone AreStateLabels labels_bytes bytes.now)) }
+    ensures refused { IfErr result (λ why. IsNoneRead why
+        (BeginsNone AreStateLabels labels_bytes) bytes.now) }
 {
     let Some((tag, rest)) = bytes.split_first() else {
-        return Err(Kind::NotState);
+        return Err(Unread::Cut);
     };
     let Some(is_listed) = bit_of(*tag) else {
-        return Err(Kind::NotState);
+        return Err(Unread::Wrong);
     };
     if !is_listed {
         return Ok((Labels::all(alloc), rest));
     }
     let (texts, rest) = texts_at(alloc, rest)?;
     let Some(labels) = Labels::listing(texts) else {
-        return Err(Kind::NotState);
+        return Err(Unread::Wrong);
     };
     labels.known();
     Ok((labels, rest))

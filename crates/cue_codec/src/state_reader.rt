@@ -148,9 +148,9 @@ impl StateReader {
         }
     }
 
-    /// Takes in the bytes that come next. A fault that stands whatever follows is told by `finish`;
-    /// from where it is found on nothing is kept, and pieces are dropped. Bytes that are no row are
-    /// found by `finish` alone, and are kept until then. The head takes no memory.
+    /// Takes in the bytes that come next. `finish` reports a fault that no continuation can mend;
+    /// once such a fault is found, the reader drops what it has kept and all further pieces. The
+    /// head takes no memory.
     ///
     /// # Errors
     ///

@@ -165,3 +165,42 @@ pub fn lists<R: Narrow>(alloc: Global, stretches: Made<Vec<Given<R>>>) -> Made<b
     let list = listed(alloc, &stretches)?;
     is_same(spelled(alloc, &stretches), &list)
 }
+
+/// Adds a rest to the list at a path, where both together are not too deep, as the table's own
+/// depth says.
+fn add_rest<R: Narrow>(list: &mut Table<R>, path: &Path, from: u32, rest: &Table<R>) -> Made<bool> {
+    if path.steps().len() + 1 + rest.depth() > STEP_LIMIT {
+        return Ok(false);
+    }
+    list.add_rest(path, from, rest)?;
+    Ok(true)
+}
+
+/// Whether something is known of the element with this index of the list at a path.
+fn has_element<R: Narrow>(alloc: Global, table: &Table<R>, list: &Path, index: u32) -> Made<bool> {
+    let path = list.then(alloc, &Step::Index(index))?;
+    Ok(table.row(&path).is_some())
+}
+
+/// Whether a rest that is added at a path from index 2 on is in the elements from there on, and in
+/// no others, and the table is as deep then as it says.
+pub fn rests<R: Narrow>(
+    alloc: Global,
+    rows: &[Entry<R>],
+    rest: &[Entry<R>],
+    list: &Path,
+) -> Made<bool> {
+    let mut table = tree(alloc, rows)?;
+    let rest = tree(alloc, rest)?;
+    let is_added = add_rest(&mut table, list, 2, &rest)?;
+    let is_deeper = table.depth() == list.steps().len() + 1 + rest.depth();
+    let has_before = has_element(alloc, &table, list, 1)?;
+    let has_further = has_element(alloc, &table, list, 3)?;
+    Ok(is_added && is_deeper && !has_before && has_further)
+}
+
+/// Whether the root, as a table of its own, is the table.
+pub fn is_own_root<R: Narrow>(alloc: Global, rows: &[Entry<R>]) -> Made<bool> {
+    let table = tree(alloc, rows)?;
+    Ok(table.root().to_table(alloc)?.same(&table))
+}

@@ -1,7 +1,7 @@
 //! Each list of rows through the tree and through the plain list.
 use crate::both::{adds, agrees, has_indexes, has_labels, roots, stays, tree};
 use crate::large::{mixes, takes_small_ones};
-use crate::many::{hangs, lists, unifies};
+use crate::many::{hangs, is_own_root, lists, rests, unifies};
 use crate::plain::Made;
 use crate::sample::{
     BRANCHES, CLASHES, DEEP, LIST, STRETCHES, STRUCTS, first_tables, given, path, row, rows, texts,
@@ -198,6 +198,19 @@ fn tells_valid_tables(rt: HostRuntime) -> Result<(), Fail> {
     for (text, wanted) in VALID {
         assert!(rt; is_valid(rt.alloc(), text)? == *wanted, "{text}");
     }
+    Ok(())
+}
+
+/// Whether a rest is added below the label `a`, and the table gives its root as a table.
+fn adds_rest(alloc: Global) -> Made<bool> {
+    let list = rows(alloc, "=optional a=list")?;
+    let rest = rows(alloc, "=struct b=one")?;
+    Ok(rests(alloc, &list, &rest, &path(alloc, "a")?)? && is_own_root(alloc, &list)?)
+}
+
+#[test]
+fn adds_a_rest_at_a_path(rt: HostRuntime) -> Result<(), Fail> {
+    assert!(rt; adds_rest(rt.alloc())?);
     Ok(())
 }
 

@@ -1,4 +1,4 @@
-use Rattle.std.proofs.Common.{arith, refl, inr, ◌∷◌, []}
+use Rattle.std.proofs.Common.{arith, ◌∷◌, []}
 use Rattle.std.proofs.lemmas.List.{length-append}
 use Rattle.cue_codec.specs.Parts.{piece_bytes}
 use Rattle.cue_codec.specs.Reading.{IsPiece}
@@ -16,7 +16,7 @@ loop-rest-preserved c =
 
 pub returns-in_default-clause-refused : goal.returns-in_default-clause-refused
 returns-in_default-clause-refused c =
-    inr (refl, items_none IsPiece piece_bytes one_piece c.args.count c.loop-rest.pieces.items c.args.bytes.now c.loop-rest.rest.now c.loop-rest.invariant.each (omega arith) c.loop-rest.invariant.parts c.in_default.ensures.none)
+    items_none IsPiece piece_bytes one_piece c.args.count c.loop-rest.pieces.items c.args.bytes.now c.loop-rest.rest.now c.loop-rest.invariant.each (omega arith) c.loop-rest.invariant.parts c.in_default.ensures.none
 
 pub returns-clause-ok : goal.returns-clause-ok
 returns-clause-ok c = record { value = (omega (arith, c.loop-rest.invariant.few), c.loop-rest.invariant.each); parts = c.loop-rest.invariant.parts }

@@ -4,7 +4,7 @@ use Rattle.std.proofs.lemmas.Result.{err_from_is_err_and}
 use Rattle.cue_codec.specs.Known.{slot_with}
 use Rattle.cue_codec.specs.Parts.{step_bytes}
 use Rattle.cue_codec.specs.StateRow.{IsStateStep}
-use Rattle.cue_codec.proofs.Codes.{items_refused}
+use Rattle.cue_codec.proofs.Codes.{items_unread}
 use Rattle.cue_codec.proofs.KnownPlaces.{known_front, known_more}
 use Rattle.cue_codec.proofs.StatePaths.{one_step, step_in, steps_in, steps_count, steps_more, steps_each, steps_front}
 use Rattle.cue_codec.proofs.paths.each_step.Goals as goal
@@ -33,7 +33,7 @@ pub returns-in_err-slot-clause-refused : goal.returns-in_err-slot-clause-refused
 returns-in_err-slot-clause-refused c =
     let p = err_from_is_err_and c.from_residual.result c.from_residual.ensures.1 in
     rw (p.1, p.2)
-    (items_refused c.in_err-slot.field-0.0 (IsStateStep c.args.version) (step_bytes c.args.version) (one_step c.args.version) c.args.count (steps_in c.loop-alloc.slots.items) c.args.bytes.now c.loop-alloc.rest.now c.loop-alloc.invariant.each (omega (arith, steps_count c.loop-alloc.slots.items)) c.loop-alloc.invariant.parts c.in_err-slot.ensures.refused)
+    (items_unread c.in_err-slot.field-0.0 (IsStateStep c.args.version) (step_bytes c.args.version) (one_step c.args.version) c.args.count (steps_in c.loop-alloc.slots.items) c.args.bytes.now c.loop-alloc.rest.now c.loop-alloc.invariant.each (omega (arith, steps_count c.loop-alloc.slots.items)) c.loop-alloc.invariant.parts c.in_err-slot.ensures.refused)
 
 pub returns-clause-ok : goal.returns-clause-ok
 returns-clause-ok c =

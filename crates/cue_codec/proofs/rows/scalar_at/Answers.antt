@@ -1,23 +1,26 @@
-use Rattle.std.proofs.Common.{refl, inr, sym, ap, ◌∙◌}
+use Rattle.std.proofs.Common.{◌++◌, refl, sym, ap, ◌∙◌}
 use Rattle.std.proofs.lemmas.Result.{err_from_is_err_and}
+use Rattle.cue_codec.specs.Parts.{set_bytes}
+use Rattle.cue_codec.specs.StateRow.{IsStateSet}
 use Rattle.cue_codec.specs.RowBytes.{is_empty_set}
-use Rattle.cue_codec.proofs.Codes.{refused_so}
+use Rattle.cue_codec.proofs.Codes.{begins_more, unread_so}
 use Rattle.cue_codec.proofs.RowParts.{scalars_first, scalars_none, scalars_second, scalars_found}
 use Rattle.cue_codec.proofs.rows.scalar_at.Goals as goal
 
 pub returns-in_err-value-clause-refused : goal.returns-in_err-value-clause-refused
 returns-in_err-value-clause-refused c =
     let p = err_from_is_err_and c.from_residual.result c.from_residual.ensures.1 in
-    rw (p.1, p.2) (refused_so c.in_err-value.field-0.0 _ _ (scalars_first c.args.bytes.now) c.in_err-value.ensures.refused)
+    rw (p.1, p.2) (unread_so c.in_err-value.field-0.0 _ _ c.args.bytes.now c.args.bytes.now (λ more. scalars_first (c.args.bytes.now ++ more)) c.in_err-value.ensures.refused)
 
 pub returns-then-is_empty-clause-refused : goal.returns-then-is_empty-clause-refused
-returns-then-is_empty-clause-refused c =
-    inr (refl, scalars_none c.args.bytes.now c.in_ok-value.middle.now c.in_ok-value.value c.in_ok-value.ensures.ok (ap is_empty_set (sym c.of.ensures) ∙ sym c.is_empty.ensures ∙ c.if-is_empty.true))
+returns-then-is_empty-clause-refused c = λ more.
+    scalars_none (c.args.bytes.now ++ more) (c.in_ok-value.middle.now ++ more) c.in_ok-value.value (begins_more IsStateSet set_bytes c.in_ok-value.value c.args.bytes.now c.in_ok-value.middle.now more c.in_ok-value.ensures.ok) (ap is_empty_set (sym c.of.ensures) ∙ sym c.is_empty.ensures ∙ c.if-is_empty.true)
 
 pub returns-in_err-usual-clause-refused : goal.returns-in_err-usual-clause-refused
 returns-in_err-usual-clause-refused c =
     let p = err_from_is_err_and c.from_residual-in_err-usual.result c.from_residual-in_err-usual.ensures.1 in
-    rw (p.1, p.2) (refused_so c.in_err-usual.field-0.0 _ _ (scalars_second c.args.bytes.now c.in_ok-value.middle.now c.in_ok-value.value c.in_ok-value.ensures.ok) c.in_err-usual.ensures.refused)
+    rw (p.1, p.2) (unread_so c.in_err-usual.field-0.0 _ _ c.in_ok-value.middle.now c.args.bytes.now
+    (λ more. scalars_second (c.args.bytes.now ++ more) (c.in_ok-value.middle.now ++ more) c.in_ok-value.value (begins_more IsStateSet set_bytes c.in_ok-value.value c.args.bytes.now c.in_ok-value.middle.now more c.in_ok-value.ensures.ok)) c.in_err-usual.ensures.refused)
 
 pub returns-clause-ok : goal.returns-clause-ok
 returns-clause-ok c = record {

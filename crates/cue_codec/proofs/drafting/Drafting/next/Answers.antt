@@ -1,22 +1,37 @@
-use Rattle.std.proofs.Common.{◌≡◌, ◌-◌, ◌<◌, [], ◌∷◌, ◌++◌, length, sym, ap, subst, ◌∙◌, arith}
+use Rattle.std.proofs.Common.{◌≡◌, ◌-◌, ◌<◌, [], ◌∷◌, ◌++◌, length, refl, sym, ap, subst, ◌∙◌, inr, arith}
 use Rattle.std.specs.Prelude.{slice_set}
 use Rattle.std.proofs.lemmas.List.{length-map, length-set}
 use Rattle.cue_table.specs.SlotsOfCode.{slot_of}
 use Rattle.cue_codec.specs.Known.{known_with}
+use Rattle.cue_codec.specs.Reading.{BeginsNone}
+use Rattle.cue_codec.specs.RowBytes.{row_bytes, IsStateRow}
+use Rattle.cue_codec.specs.Inner.Reading.{IsNoneRead}
 use Rattle.cue_codec.specs.Inner.Drafting.{RowsRead, rows_bytes, IsNext, NoneNext, BeginsNoRows}
 use Rattle.cue_codec.proofs.Codes.{refused_so}
-use Rattle.cue_codec.proofs.Drafted.{not_memory, next_missing, next_unordered, next_ok, next_drafting}
+use Rattle.cue_codec.proofs.Drafted.{next_missing, next_never, next_unordered, next_ok, next_drafting}
 use Rattle.cue_codec.proofs.KnownPlaces.{known_set}
 use Rattle.cue_codec.proofs.drafting.Drafting.next.Goals as goal
 
-pub returns-in_default-clause-ok : goal.returns-in_default-clause-ok
-returns-in_default-clause-ok c =
+pub returns-in-Cut-clause-ok : goal.returns-in-Cut-clause-ok
+returns-in-Cut-clause-ok c =
     let i = c.self.inside in
-    let some : 0 < i.left = subst (λ (v : RowsRead). 0 < v.left) (sym c.self.view_is) c.requires in (
+    let some : 0 < i.left = subst (λ (v : RowsRead). 0 < v.left) (sym c.self.view_is) c.requires in
+    let none = subst (λ why. IsNoneRead why (BeginsNone (IsStateRow i.version) (row_bytes i.version)) c.args.reader.now) c.in-Cut.is c.in-Err.ensures.refused in (
       c.self.view_is,
       c.in-Err.ensures.unchanged,
       subst (λ (v : RowsRead). NoneNext v c.args.reader.now) c.self.view_is
-          (next_missing i.version i.count i.left i.draft i.indexes.items i.known c.self.invariant.read some c.args.reader.now (not_memory c.in-Err.kind _ c.in_default.not-Memory c.in-Err.ensures.refused)),
+          (next_missing i.version i.count i.left i.draft i.indexes.items i.known c.self.invariant.read some c.args.reader.now none),
+    )
+
+pub returns-in-Wrong-clause-refused : goal.returns-in-Wrong-clause-refused
+returns-in-Wrong-clause-refused c =
+    let i = c.self.inside in
+    let some : 0 < i.left = subst (λ (v : RowsRead). 0 < v.left) (sym c.self.view_is) c.requires in
+    let none = subst (λ why. IsNoneRead why (BeginsNone (IsStateRow i.version) (row_bytes i.version)) c.args.reader.now) c.in-Wrong.is c.in-Err.ensures.refused in
+    inr (
+      refl,
+      subst (λ (v : RowsRead). BeginsNoRows v.version v.count (v.bytes ++ c.args.reader.now)) c.self.view_is
+          (next_never i.version i.count i.left i.draft i.indexes.items i.known c.self.invariant.read some c.args.reader.now none),
     )
 
 pub returns-in-Err-append-clause-refused : goal.returns-in-Err-append-clause-refused
