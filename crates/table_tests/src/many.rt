@@ -178,6 +178,9 @@ fn add_rest<R: Narrow>(list: &mut Table<R>, path: &Path, from: u32, rest: &Table
 
 /// Whether something is known of the element with this index of the list at a path.
 fn has_element<R: Narrow>(alloc: Global, table: &Table<R>, list: &Path, index: u32) -> Made<bool> {
+    if list.steps().len() >= STEP_LIMIT {
+        return Ok(false);
+    }
     let path = list.then(alloc, &Step::Index(index))?;
     Ok(table.row(&path).is_some())
 }
