@@ -1,0 +1,10 @@
+pub mod Bytes
+pub mod Code
+pub mod Inner
+pub mod Join
+pub mod Layers
+pub mod Maps
+pub mod Names
+pub mod Puts
+pub mod Refusals
+pub mod View

@@ -1,0 +1,30 @@
+//! Layers: what each owner of a configuration says, replaced by what the owner says next.
+//!
+//! A map of layers has one for each kind and name. Owners put and remove layers at any site, and
+//! sites join their maps: late, repeatedly, in any order.
+#![tactic(auto)]
+
+mod finding;
+mod joining;
+mod laws;
+mod layer;
+mod layers;
+mod names;
+mod piece;
+mod putting;
+mod reading;
+mod refusal;
+mod view;
+mod writing;
+
+pub use cue_lattice::{Memory, Refusal, Text};
+pub use cue_policies::LayerKind;
+pub use cue_replica::Replica;
+pub use laws::{
+    joined_maps_are_of_both_sets, maps_join_in_any_order, one_map_of_puts, puts_are_added,
+};
+pub use layer::Layer;
+pub use layers::Layers;
+pub use names::bad_place;
+pub use piece::Piece;
+pub use refusal::LayersRefusal;

@@ -1,0 +1,11 @@
+use Rattle.std.specs.Vec.Iter.{into_iter_items}
+use Rattle.cue_policies.specs.Inner.Parts.{most_depth}
+use Rattle.cue_policies.proofs.Fields.{AreFieldsSoFar}
+use Rattle.cue_policies.proofs.view.+view_of.Given as goal
+
+abbrev pub decreases-view_of : goal.decreases-view_of
+decreases-view_of l = most_depth l.parts.now
+
+-- each label is one of a field, or still to come
+abbrev pub invariant-loop-label : goal.invariant-loop-label
+invariant-loop-label l = AreFieldsSoFar l.parts (into_iter_items l.label-iterator) l.fields.items

@@ -1,0 +1,21 @@
+//! Policies: patterns that bind labels which others declare, and the view of layers and policies.
+#![tactic(auto)]
+
+mod below;
+mod forms;
+mod kind;
+mod labels;
+mod laws;
+mod names;
+mod part;
+mod place;
+mod view;
+
+pub use forms::{is_plain, is_well_formed};
+pub use kind::LayerKind;
+pub use labels::{fits, is_pattern};
+pub use laws::{
+    documents_of_views, policies_stay_well_formed, views_in_any_order, views_of_two,
+    views_without_patterns,
+};
+pub use view::whole_view;
