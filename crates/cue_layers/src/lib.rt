@@ -18,7 +18,7 @@ mod view;
 mod writing;
 
 pub use cue_lattice::{Memory, Refusal, Text};
-pub use cue_policies::LayerKind;
+pub use cue_policies::{LayerKind, ViewError};
 pub use cue_replica::Replica;
 pub use laws::{
     joined_maps_are_of_both_sets, maps_join_in_any_order, one_map_of_puts, puts_are_added,

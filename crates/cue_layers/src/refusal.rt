@@ -2,6 +2,7 @@ ghost use Rattle.std.specs.Prelude.{◌≡◌};
 ghost use Rattle.cue_layers.specs.Refusals.{name_at, number_of, place_of, index_of};
 
 use cue_lattice::{Memory, Refusal};
+use cue_policies::ViewError;
 use std::fmt;
 
 /// Why a call on layers was refused. The numbers go on where those of texts and states end.
@@ -94,6 +95,15 @@ impl From<Memory> for LayersRefusal {
 
     fn from(memory: Memory) -> LayersRefusal {
         LayersRefusal::Store(Refusal::from(memory))
+    }
+}
+
+impl From<ViewError> for LayersRefusal {
+    fn from(error: ViewError) -> LayersRefusal {
+        match error {
+            ViewError::Memory(memory) => LayersRefusal::from(memory),
+            ViewError::TooLarge => LayersRefusal::ViewTooLarge,
+        }
     }
 }
 

@@ -10,9 +10,10 @@ ghost use Rattle.cue_layers.specs.View.{parts_of, IsViewOf};
 ghost use Rattle.cue_layers.specs.Inner.Viewing.{AddsLayer};
 
 use crate::layer::Layer;
-use crate::layers::Layers;
+use crate::layers::{Layers, copy_all};
+use crate::refusal::LayersRefusal;
 use cue_lattice::Memory;
-use cue_policies::{LayerKind, whole_view};
+use cue_policies::{LayerKind, ViewError, whole_view};
 use cue_replica::Replica;
 use std::alloc::Global;
 
@@ -59,19 +60,77 @@ fn unified_of(alloc: Global, layers: &[Layer], kind: LayerKind) -> Result<Replic
     Ok(site)
 }
 
+/// The view of layers, as a site.
+fn view_of(alloc: Global, layers: &[Layer], limit: u64) -> Result<Replica, ViewError> {
+    let proper = unified_of(alloc, layers, LayerKind::Layer)?;
+    let policies = unified_of(alloc, layers, LayerKind::Policy)?;
+    let table = whole_view(alloc, proper.table(), policies.table(), limit)?;
+    Ok(Replica::of_table(alloc, table))
+}
+
 impl Layers {
     /// The view of the map, as a site: the unification of all layers proper, bound by the policies.
     /// It may have far more rows than the map.
     ///
     /// # Errors
     ///
-    /// `Memory`.
-    pub fn view(&self, alloc: Global) -> Result<Replica, Memory>
-        ensures { IfOk result (IsViewOf self.now) }
-    {
-        let layers = unified_of(alloc, self.entries(), LayerKind::Layer)?;
-        let policies = unified_of(alloc, self.entries(), LayerKind::Policy)?;
-        let table = whole_view(alloc, layers.table(), policies.table())?;
-        Ok(Replica::of_table(alloc, table))
+    /// `ViewTooLarge`, where some policy has a pattern and the view has more rows than the limit;
+    /// a rest counts once. And `Memory`.
+    pub fn view(&self, alloc: Global, limit: u64) -> Result<Replica, LayersRefusal> {
+        Ok(view_of(alloc, self.entries(), limit)?)
     }
+
+    /// The layers that alone make the view too large, of which none can be left out, in the order of
+    /// the map. There are none where the view is not too large.
+    pub fn too_large(&self, alloc: Global, limit: u64) -> Result<Vec<Layer>, Memory> {
+        if !is_too_large(alloc, self.entries(), limit)? {
+            return Ok(Vec::new(alloc));
+        }
+        least_of(alloc, copy_all(alloc, self.entries())?, limit)
+    }
+}
+
+/// Whether the view of layers is too large.
+fn is_too_large(alloc: Global, layers: &[Layer], limit: u64) -> Result<bool, Memory> {
+    match view_of(alloc, layers, limit) {
+        Ok(_) => Ok(false),
+        Err(ViewError::TooLarge) => Ok(true),
+        Err(ViewError::Memory(memory)) => Err(memory),
+    }
+}
+
+/// Layers of a list whose view is too large, of which none can be left out.
+fn least_of(alloc: Global, mut layers: Vec<Layer>, limit: u64) -> Result<Vec<Layer>, Memory> {
+    loop {
+        let count = layers.len();
+        layers = left_out(alloc, layers, limit)?;
+        if layers.len() == count {
+            return Ok(layers);
+        }
+    }
+}
+
+/// Layers of a list whose view is too large. Each in turn is left out, where the others still are.
+fn left_out(alloc: Global, mut layers: Vec<Layer>, limit: u64) -> Result<Vec<Layer>, Memory> {
+    let mut at = 0;
+    while at < layers.len() {
+        let others = without(alloc, layers.as_slice(), at)?;
+        if is_too_large(alloc, others.as_slice(), limit)? {
+            layers = others;
+        } else {
+            at += 1;
+        }
+    }
+    Ok(layers)
+}
+
+/// The layers of a list but the one at an index.
+fn without(alloc: Global, layers: &[Layer], at: usize) -> Result<Vec<Layer>, Memory> {
+    let mut others = Vec::with_capacity(alloc, layers.len())?;
+    for (i, layer) in layers.iter().enumerate() {
+        if i != at {
+            others.push(layer.copy(alloc)?)?;
+        }
+    }
+    Ok(others)
 }

@@ -2,6 +2,7 @@
 #![tactic(auto)]
 
 mod below;
+mod error;
 mod forms;
 mod kind;
 mod labels;
@@ -9,8 +10,10 @@ mod laws;
 mod names;
 mod part;
 mod place;
+mod rows;
 mod view;
 
+pub use error::ViewError;
 pub use forms::{is_plain, is_well_formed};
 pub use kind::LayerKind;
 pub use labels::{fits, is_pattern};

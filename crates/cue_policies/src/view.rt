@@ -13,22 +13,36 @@ ghost use Rattle.cue_policies.specs.WellFormed.{IsWellFormed};
 ghost use Rattle.cue_policies.specs.declared.part.Role.TheVariants as roles;
 
 use crate::below::parts_below;
+use crate::error::ViewError;
 use crate::forms::is_plain;
 use crate::names::labels_of;
 use crate::part::{Role, ViewPart};
 use crate::place::places_of;
+use crate::rows::rows_within;
 use cue_lattice::Memory;
 use cue_row::{Row, Step};
 use cue_table::Table;
 use std::alloc::Global;
 
-/// The view of the unification of all layers proper and of that of all policies, however many rows
-/// it has.
+/// A part of the view, and a number of rows that it has at least.
+#[derive(Drop)]
+struct CountedView {
+    table: Table<Row>,
+    rows: u64,
+}
+
+/// The view of the unification of all layers proper and of that of all policies.
+///
+/// # Errors
+///
+/// `TooLarge`, where some policy has a pattern and the view has more rows than the limit. And
+/// `Memory`. A view that is too large is refused after steps for some 64 times the limit.
 pub fn whole_view(
     alloc: Global,
     layers: &Table<Row>,
     policies: &Table<Row>,
-) -> Result<Table<Row>, Memory>
+    limit: u64,
+) -> Result<Table<Row>, ViewError>
     requires layers { IsValidTable layers.now }
     requires policies { IsValidTable policies.now }
     requires formed { IsWellFormed (TableRefuses RowRefuses policies.now) }
@@ -37,7 +51,7 @@ pub fn whole_view(
         SameAnswers (TableRefuses RowRefuses view) (ViewOfTwo layers.now policies.now)) }
 {
     if is_plain(policies) {
-        return layers.meet(alloc, policies);
+        return Ok(layers.meet(alloc, policies)?);
     }
     let mut parts = Vec::with_capacity(alloc, 2)?;
     parts.push(ViewPart {
@@ -48,30 +62,50 @@ pub fn whole_view(
         role: Role::Policy,
         branch: policies.root(),
     })?;
-    view_of(alloc, &parts)
+    let view = view_of(alloc, &parts, limit)?.table;
+    match rows_within(&view.root(), limit) {
+        Some(_) => Ok(view),
+        None => Err(ViewError::TooLarge),
+    }
 }
 
-/// The view of the parts of a place. The recursion is as deep as the deepest part.
-fn view_of(alloc: Global, parts: &[ViewPart<'_>]) -> Result<Table<Row>, Memory>
+/// The view of the parts of a place, where it has no more than `most` rows at its ends. The
+/// recursion is as deep as the deepest part.
+fn view_of(alloc: Global, parts: &[ViewPart<'_>], most: u64) -> Result<CountedView, ViewError>
     requires sound { AreSoundParts parts.now }
     requires depth { most_depth parts.now ≤ step_limit }
-    ensures form { IfOk result (IsTable Refuses IsRow) }
+    ensures form { IfOk result (λ view. IsTable Refuses IsRow view.table) }
     ensures refused { IfOk result (λ view.
-        SameAnswers (TableRefuses RowRefuses view) (PartsRefuse parts.now)) }
-    ensures fit { IfOk result (λ view. (top : Bool) → AreLimited top parts.now → IsFit top view) }
+        SameAnswers (TableRefuses RowRefuses view.table) (PartsRefuse parts.now)) }
+    ensures fit { IfOk result (λ view.
+        (top : Bool) → AreLimited top parts.now → IsFit top view.table) }
 {
     if let Some(part) = lone_layer(parts) {
-        return part.branch.to_table(alloc);
+        return count_rows(part.branch.to_table(alloc)?, most);
     }
     let labels = labels_of(alloc, parts, false)?;
     let patterns = labels_of(alloc, parts, true)?;
     let mut fields = Vec::with_capacity(alloc, labels.len())?;
+    let mut rows = 0;
     for label in labels {
         let below = parts_below(alloc, parts, &patterns, &label)?;
-        let field = view_of(alloc, &below)?;
-        fields.push((Step::Label(label), field))?;
+        let field = view_of(alloc, &below, most - rows)?;
+        rows += field.rows;
+        fields.push((Step::Label(label), field.table))?;
     }
-    together(alloc, parts, fields)
+    let table = together(alloc, parts, fields)?;
+    if rows == 0 {
+        return count_rows(table, most);
+    }
+    Ok(CountedView { table, rows })
+}
+
+/// A table with all its rows, where it has no more than `most`.
+fn count_rows(table: Table<Row>, most: u64) -> Result<CountedView, ViewError> {
+    match rows_within(&table.root(), most) {
+        Some(rows) => Ok(CountedView { table, rows }),
+        None => Err(ViewError::TooLarge),
+    }
 }
 
 /// The only part, where it is one of a layer proper.
