@@ -4,6 +4,8 @@ use Rattle.std.specs.List.{AllByRecursion}
 use Rattle.cue_lattice.specs.Refusal.{number_of as kind_number, names as kind_names, memory}
 use Rattle.cue_lattice.specs.World.{Piece, text, state, pieces_refuse}
 use Rattle.cue_lattice.specs.declared.refusal.Refusal.{Refusal}
+use Rattle.cue_policies.specs.declared.error.ViewError.{ViewError}
+use Rattle.cue_policies.specs.declared.error.ViewError.TheVariants as errors
 use Rattle.cue_policies.specs.declared.kind.LayerKind.{LayerKind}
 use Rattle.cue_policies.specs.declared.kind.LayerKind.TheVariants as kinds
 use Rattle.cue_policies.specs.WellFormed.{IsWellFormed}
@@ -59,6 +61,11 @@ index_of reason = None
 -- out of memory
 abbrev pub out_of_memory : LayersRefusal
 out_of_memory = reasons.Store memory
+
+-- why a view of a map is refused, as a reason of this crate
+abbrev pub refusal_of : ViewError → LayersRefusal
+refusal_of (errors.Memory cause) = out_of_memory
+refusal_of errors.TooLarge = reasons.ViewTooLarge
 
 -- a piece, as worlds have it
 abbrev pub piece_of : OwnedPiece → Piece

@@ -1,10 +1,17 @@
 -- The view of a map of layers: what a site exports, reports and prints.
-use Rattle.std.specs.Prelude.{List, map}
+use Rattle.std.specs.Prelude.{◌≡◌, ◌⊎◌, ℕ, ◌<◌, List, [], ◌∷◌, map, length, remove}
+use Rattle.std.specs.List.{AllByRecursion}
 use Rattle.cue_lattice.specs.Question.{SameAnswers}
 use Rattle.cue_policies.specs.Laws.{Parts}
+use Rattle.cue_policies.specs.Rows.{row_count}
 use Rattle.cue_policies.specs.Tables.{TablesRefuse}
+use Rattle.cue_policies.specs.WellFormed.{IsPlain}
+use Rattle.cue_policies.specs.declared.kind.LayerKind.TheVariants as kinds
 use Rattle.cue_replica.specs.Language.{Table, language}
 use Rattle.cue_layers.specs.declared.layer.Layer.{Layer}
+use Rattle.cue_layers.specs.declared.refusal.LayersRefusal.{LayersRefusal}
+use Rattle.cue_layers.specs.declared.refusal.LayersRefusal.TheVariants.{ViewTooLarge}
+use Rattle.cue_layers.specs.Refusals.{out_of_memory}
 
 -- each layer, with its kind and its table
 abbrev pub parts_of : List Layer → Parts
@@ -14,3 +21,35 @@ parts_of = map (λ layer. (layer.kind, layer.content))
 pub record IsViewOf (layers : List Layer) (view : Table) : Type 0 where
   pub valid : language.IsValid view
   pub refuses : SameAnswers (language.table_refuses view) (TablesRefuse (parts_of layers))
+
+-- the layer is no policy, or has no pattern
+abbrev pub HasNoPattern : Layer → Type 0
+HasNoPattern layer = layer.kind ≡ kinds.Policy → IsPlain (language.table_refuses layer.content)
+
+-- Some policy has a pattern, and the view has more rows than the limit.
+pub record IsTooLarge (limit : ℕ) (layers : List Layer) : Type 0 where
+  pub patterns : ¬ AllByRecursion HasNoPattern layers
+  pub rows : (view : Table) → IsViewOf layers view → limit < row_count view
+
+-- why there is no view: it is too large, or memory ran out
+abbrev pub IsViewRefusal : ℕ → List Layer → LayersRefusal → Type 0
+IsViewRefusal limit layers why =
+    ((why ≡ ViewTooLarge) × IsTooLarge limit layers) ⊎ (why ≡ out_of_memory)
+
+-- the first list is the second without some of its layers
+abbrev pub IsPickedFrom : List Layer → List Layer → Type 0
+IsPickedFrom some [] = some ≡ []
+IsPickedFrom some (layer ∷ layers) =
+    IsPickedFrom some layers
+    ⊎ ((others : List Layer) × (some ≡ layer ∷ others) × IsPickedFrom others layers)
+
+-- The view of these layers is too large, and without any one of them it is not.
+pub record IsLeastTooLarge (limit : ℕ) (layers : List Layer) : Type 0 where
+  pub large : IsTooLarge limit layers
+  pub least : (k : ℕ) → k < length layers → ¬ IsTooLarge limit (remove layers k)
+
+-- Layers of a list that alone make its view too large; or none, where it is not.
+abbrev pub AreTooLarge : ℕ → List Layer → List Layer → Type 0
+AreTooLarge limit layers [] = ¬ IsTooLarge limit layers
+AreTooLarge limit layers (layer ∷ others) =
+    IsPickedFrom (layer ∷ others) layers × IsLeastTooLarge limit (layer ∷ others)

@@ -99,6 +99,10 @@ impl From<Memory> for LayersRefusal {
 }
 
 impl From<ViewError> for LayersRefusal {
+    ghost use Rattle.cue_layers.specs.Refusals.{refusal_of};
+
+    ghost from_gives = { λ error refusal. refusal ≡ refusal_of error };
+
     fn from(error: ViewError) -> LayersRefusal {
         match error {
             ViewError::Memory(memory) => LayersRefusal::from(memory),

@@ -1,12 +1,14 @@
 //! The view of a map of layers.
-ghost use Rattle.std.specs.Prelude.{◌≡◌, ◌↔◌, IfOk, IsTrue, OnOk};
+ghost use Rattle.std.specs.Prelude.{◌≡◌, ◌<◌, ◌↔◌, length, remove, vec_len, IfErr, IfOk, IsTrue, OnOk};
 ghost use Rattle.std.specs.List.{AllByRecursion};
 ghost use Rattle.cue_policies.specs.Laws.{IsUnifiedOf};
+ghost use Rattle.cue_policies.specs.Rows.{IsViewError};
 ghost use Rattle.cue_policies.specs.WellFormed.{IsWellFormed};
 ghost use Rattle.cue_policies.specs.declared.kind.LayerKind.TheVariants as kinds;
 ghost use Rattle.cue_replica.specs.Language.{language};
 ghost use Rattle.cue_layers.specs.Layers.{IsLayer};
-ghost use Rattle.cue_layers.specs.View.{parts_of, IsViewOf};
+ghost use Rattle.cue_layers.specs.View.{parts_of, IsViewOf, IsTooLarge, IsViewRefusal};
+ghost use Rattle.cue_layers.specs.View.{AreTooLarge, IsLeastTooLarge, IsPickedFrom};
 ghost use Rattle.cue_layers.specs.Inner.Viewing.{AddsLayer};
 
 use crate::layer::Layer;
@@ -61,7 +63,12 @@ fn unified_of(alloc: Global, layers: &[Layer], kind: LayerKind) -> Result<Replic
 }
 
 /// The view of layers, as a site.
-fn view_of(alloc: Global, layers: &[Layer], limit: u64) -> Result<Replica, ViewError> {
+fn view_of(alloc: Global, layers: &[Layer], limit: u64) -> Result<Replica, ViewError>
+    requires { AllByRecursion IsLayer layers.now }
+    ensures view { IfOk result (IsViewOf layers.now) }
+    ensures few { OnOk result (¬ IsTooLarge limit layers.now) }
+    ensures large { IfErr result (IsViewError (IsTooLarge limit layers.now)) }
+{
     let proper = unified_of(alloc, layers, LayerKind::Layer)?;
     let policies = unified_of(alloc, layers, LayerKind::Policy)?;
     let table = whole_view(alloc, proper.table(), policies.table(), limit)?;
@@ -74,15 +81,21 @@ impl Layers {
     ///
     /// # Errors
     ///
-    /// `ViewTooLarge`, where some policy has a pattern and the view has more rows than the limit;
-    /// a rest counts once. And `Memory`.
-    pub fn view(&self, alloc: Global, limit: u64) -> Result<Replica, LayersRefusal> {
+    /// `ViewTooLarge`, where some policy has a pattern and the view has more rows than the limit. The
+    /// row of a rest counts once. And `Memory`.
+    pub fn view(&self, alloc: Global, limit: u64) -> Result<Replica, LayersRefusal>
+        ensures view { IfOk result (IsViewOf self.now) }
+        ensures few { OnOk result (¬ IsTooLarge limit self.now) }
+        ensures refused { IfErr result (IsViewRefusal limit self.now) }
+    {
         Ok(view_of(alloc, self.entries(), limit)?)
     }
 
-    /// The layers that alone make the view too large, of which none can be left out, in the order of
-    /// the map. There are none where the view is not too large.
-    pub fn too_large(&self, alloc: Global, limit: u64) -> Result<Vec<Layer>, Memory> {
+    /// The layers that alone make the view too large, in the order of the map. None of them can be
+    /// left out. Nothing is returned where the view is not too large.
+    pub fn too_large(&self, alloc: Global, limit: u64) -> Result<Vec<Layer>, Memory>
+        ensures { IfOk result (λ layers. AreTooLarge limit self.now layers.items) }
+    {
         if !is_too_large(alloc, self.entries(), limit)? {
             return Ok(Vec::new(alloc));
         }
@@ -91,7 +104,10 @@ impl Layers {
 }
 
 /// Whether the view of layers is too large.
-fn is_too_large(alloc: Global, layers: &[Layer], limit: u64) -> Result<bool, Memory> {
+fn is_too_large(alloc: Global, layers: &[Layer], limit: u64) -> Result<bool, Memory>
+    requires { AllByRecursion IsLayer layers.now }
+    ensures { IfOk result (λ is. IsTrue is ↔ IsTooLarge limit layers.now) }
+{
     match view_of(alloc, layers, limit) {
         Ok(_) => Ok(false),
         Err(ViewError::TooLarge) => Ok(true),
@@ -100,18 +116,31 @@ fn is_too_large(alloc: Global, layers: &[Layer], limit: u64) -> Result<bool, Mem
 }
 
 /// Layers of a list whose view is too large, of which none can be left out.
-fn least_of(alloc: Global, mut layers: Vec<Layer>, limit: u64) -> Result<Vec<Layer>, Memory> {
+fn least_of(alloc: Global, mut layers: Vec<Layer>, limit: u64) -> Result<Vec<Layer>, Memory>
+    requires each { AllByRecursion IsLayer layers.items }
+    requires large { IsTooLarge limit layers.items }
+    ensures picked { IfOk result (λ least. IsPickedFrom least.items layers.items) }
+    ensures least { IfOk result (λ least. IsLeastTooLarge limit least.items) }
+{
     loop {
         let count = layers.len();
-        layers = left_out(alloc, layers, limit)?;
+        layers = thin_out(alloc, layers, limit)?;
         if layers.len() == count {
             return Ok(layers);
         }
     }
 }
 
-/// Layers of a list whose view is too large. Each in turn is left out, where the others still are.
-fn left_out(alloc: Global, mut layers: Vec<Layer>, limit: u64) -> Result<Vec<Layer>, Memory> {
+/// Layers of a list whose view is too large: each in turn is left out where the view of the others
+/// still is.
+fn thin_out(alloc: Global, mut layers: Vec<Layer>, limit: u64) -> Result<Vec<Layer>, Memory>
+    requires each { AllByRecursion IsLayer layers.items }
+    requires large { IsTooLarge limit layers.items }
+    ensures picked { IfOk result (λ fewer. IsPickedFrom fewer.items layers.items) }
+    ensures large { IfOk result (λ fewer. IsTooLarge limit fewer.items) }
+    ensures least { IfOk result (λ fewer. vec_len fewer ≡ vec_len layers
+        → IsLeastTooLarge limit fewer.items) }
+{
     let mut at = 0;
     while at < layers.len() {
         let others = without(alloc, layers.as_slice(), at)?;
@@ -125,12 +154,11 @@ fn left_out(alloc: Global, mut layers: Vec<Layer>, limit: u64) -> Result<Vec<Lay
 }
 
 /// The layers of a list but the one at an index.
-fn without(alloc: Global, layers: &[Layer], at: usize) -> Result<Vec<Layer>, Memory> {
-    let mut others = Vec::with_capacity(alloc, layers.len())?;
-    for (i, layer) in layers.iter().enumerate() {
-        if i != at {
-            others.push(layer.copy(alloc)?)?;
-        }
-    }
+fn without(alloc: Global, layers: &[Layer], at: usize) -> Result<Vec<Layer>, Memory>
+    requires { at < length layers.now }
+    ensures { IfOk result (λ others. others.items ≡ remove layers.now at) }
+{
+    let mut others = copy_all(alloc, layers)?;
+    others.remove(at);
     Ok(others)
 }

@@ -28,7 +28,7 @@ use Rattle.cue_policies.specs.declared.kind.LayerKind.TheVariants as kinds
 use Rattle.cue_policies.specs.declared.part.Role.TheVariants as roles
 use Rattle.cue_policies.specs.declared.part.ViewPart.{ViewPart}
 use Rattle.cue_policies.specs.Inner.Answers.{Answers}
-use Rattle.cue_policies.specs.Inner.Parts.{held, held_row, part_of, PartsRefuse, IsIn, HasLabel, HasLabels, IsBelow, IsPlace, IsElements, RestRefuses, IsSoundPart, AreSoundParts, IsLimited, IsFit, AreLimited, IsField, AreFields, most_depth}
+use Rattle.cue_policies.specs.Inner.Parts.{held, held_row, part_of, two_parts, PartsRefuse, IsIn, HasLabel, HasLabels, IsBelow, IsPlace, IsElements, RestRefuses, IsSoundPart, AreSoundParts, IsLimited, IsFit, AreLimited, IsField, AreFields, most_depth}
 use Rattle.cue_policies.proofs.Branches.{OwnRefuses, RestAt, elements_apart}
 use Rattle.cue_policies.proofs.Fields.{AreFieldsSoFar}
 use Rattle.cue_policies.proofs.Gains.{none_in, pushed}
@@ -227,9 +227,6 @@ lone_answers parts part view e role is path question =
     (subst (λ t. Answers t path question ↔ PartsRefuse (part ∷ []) path question) (sym is) here)
 
 -- ---- the two tables
-abbrev pub two_parts : Tree Row → Tree Row → List ViewPart
-two_parts layers policies = (record { role = roles.Layer; branch = layers }) ∷ (record { role = roles.Policy; branch = policies }) ∷ []
-
 each_of : (layers policies : Tree Row) (P : ViewPart → Type 0) → P (record { role = roles.Layer; branch = layers }) → P (record { role = roles.Policy; branch = policies }) → (part : ViewPart) → IsIn part (two_parts layers policies) → P part
 each_of layers policies P p q part is = ⊎_elim (λ e. subst P e p) (λ r. ⊎_elim (λ e. subst P e q) (λ non. absurd non) r) is
 

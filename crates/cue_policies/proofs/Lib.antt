@@ -1,13 +1,17 @@
 pub mod Admitted
+pub mod Apart
 pub mod Asking
 pub mod Branches
 pub mod Calls
+pub mod Counting
 pub mod Fields
 pub mod FormWalks
 pub mod Gains
 pub mod Gathering
+pub mod InOrder
 pub mod Places
 pub mod Pruned
+pub mod Sizes
 pub mod Snoc
 pub mod Soundness
 pub mod Steps

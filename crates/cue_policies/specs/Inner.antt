@@ -3,3 +3,4 @@ pub mod Answers
 pub mod Below
 pub mod Forms
 pub mod Parts
+pub mod Rows

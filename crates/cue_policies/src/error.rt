@@ -1,6 +1,4 @@
 //! Why a view is not made.
-ghost use Rattle.std.specs.Prelude.{◌≡◌};
-
 use cue_lattice::Memory;
 use std::alloc::{AllocError, AllocFailed};
 
@@ -14,9 +12,9 @@ pub enum ViewError {
 }
 
 impl From<Memory> for ViewError {
-    ghost use Rattle.cue_policies.specs.declared.error.ViewError.TheVariants as errors;
+    ghost use Rattle.cue_policies.specs.Rows.{IsViewError};
 
-    ghost from_gives = { λ memory error. error ≡ errors.Memory memory };
+    ghost from_gives = { λ _ error. IsViewError ⊥ error };
 
     fn from(memory: Memory) -> ViewError {
         ViewError::Memory(memory)
@@ -24,12 +22,20 @@ impl From<Memory> for ViewError {
 }
 
 impl From<AllocError> for ViewError {
+    ghost use Rattle.cue_policies.specs.Rows.{IsViewError};
+
+    ghost from_gives = { λ _ error. IsViewError ⊥ error };
+
     fn from(error: AllocError) -> ViewError {
         ViewError::Memory(Memory::from(error))
     }
 }
 
 impl<T: Drop> From<AllocFailed<T>> for ViewError {
+    ghost use Rattle.cue_policies.specs.Rows.{IsViewError};
+
+    ghost from_gives = { λ _ error. IsViewError ⊥ error };
+
     fn from(error: AllocFailed<T>) -> ViewError {
         ViewError::Memory(Memory::from(error))
     }

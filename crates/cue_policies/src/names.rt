@@ -1,25 +1,28 @@
 //! The labels of a place of the view.
 ghost use Rattle.std.specs.Prelude.{◌≡◌, ◌↔◌, ◌⊎◌, ℕ, List, IfOk, IsTrue, OnOk};
+ghost use Rattle.std.specs.Cmp.Lexicographic.{slice_cmp};
+ghost use Rattle.std.specs.List.Sorted.{IsStrictlySortedBy};
+ghost use Rattle.std.specs.Ordering.{nat_cmp};
 ghost use Rattle.cue_policies.specs.Inner.Parts.{GainsLabels, HasLabels, IsIn, IsOf};
 
 use crate::part::{Role, ViewPart};
 use cue_lattice::{Memory, Text};
 use std::alloc::Global;
 
-/// The labels of the parts, each once: those that are patterns of their part, or the others.
+/// The labels of the parts in order, each once: those that are patterns of their part, or the others.
 pub(crate) fn labels_of(
     alloc: Global,
     parts: &[ViewPart<'_>],
     patterns: bool,
 ) -> Result<Vec<Text>, Memory>
-    ensures { IfOk result (λ labels. HasLabels patterns parts.now labels.items) }
+    ensures labels { IfOk result (λ labels. HasLabels patterns parts.now labels.items) }
+    ensures order { IfOk result (λ labels. IsStrictlySortedBy (slice_cmp nat_cmp) labels.items) }
 {
     let mut labels = Vec::new(alloc);
     for part in parts {
         add_labels(alloc, &mut labels, part, patterns)?;
     }
-    labels.sort_by(|one, other| one.compare(other))?;
-    each_once(alloc, labels)
+    in_order(labels)
 }
 
 /// Puts the labels of a part behind others: those that are its patterns, or the others.
@@ -62,35 +65,13 @@ fn is_of(patterns: bool, role: Role, label: &str) -> bool
     if patterns { is_pattern } else { !is_pattern }
 }
 
-/// The texts of a list, but those that follow an equal one.
-fn each_once(alloc: Global, texts: Vec<Text>) -> Result<Vec<Text>, Memory>
-    ensures { IfOk result (λ kept. (text : List ℕ) → IsIn text kept.items ↔ IsIn text texts.items) }
+/// The texts of a list in order, each once.
+fn in_order(mut texts: Vec<Text>) -> Result<Vec<Text>, Memory>
+    ensures order { IfOk result (λ kept. IsStrictlySortedBy (slice_cmp nat_cmp) kept.items) }
+    ensures same { IfOk result (λ kept. (text : List ℕ) → IsIn text kept.items
+        ↔ IsIn text texts.items) }
 {
-    let mut kept = Vec::with_capacity(alloc, texts.len())?;
-    for text in texts {
-        push_once(&mut kept, text)?;
-    }
-    Ok(kept)
-}
-
-/// Puts a text behind others, unless the last of them is the same.
-fn push_once(texts: &mut Vec<Text>, text: Text) -> Result<(), Memory>
-    ensures { OnOk result ((t : List ℕ) →
-        IsIn t texts.new.items ↔ (IsIn t texts.old.items ⊎ (text ≡ t))) }
-{
-    if is_last(texts, &text) {
-        return Ok(());
-    }
-    texts.push(text)?;
-    Ok(())
-}
-
-/// Whether a text is the last one of a list.
-fn is_last(texts: &[Text], text: &Text) -> bool
-    ensures { IsTrue result → IsIn text.now texts.now }
-{
-    match texts.split_last() {
-        None => false,
-        Some((last, _)) => last.same(text),
-    }
+    texts.sort_by(|one, other| one.compare(other))?;
+    texts.dedup_by(|one, other| one.compare(other).is_eq());
+    Ok(texts)
 }

@@ -1,15 +1,17 @@
 //! The view of layers and policies as one table.
-ghost use Rattle.std.specs.Prelude.{◌≡◌, ◌≤◌, ◌∷◌, [], Bool, List, IfOk, IfSome, ℕ};
+ghost use Rattle.std.specs.Prelude.{◌≡◌, ◌<◌, ◌≤◌, ◌∷◌, [], Bool, IfErr, IfOk, IfSome, OnOk};
 ghost use Rattle.cue_lattice.specs.Limits.{step_limit};
 ghost use Rattle.cue_lattice.specs.Question.{SameAnswers};
 ghost use Rattle.cue_row.specs.Row.{IsRow, Refuses, RowRefuses};
+ghost use Rattle.cue_table.specs.Depth.{tree_depth};
 ghost use Rattle.cue_table.specs.Form.{IsTable};
 ghost use Rattle.cue_table.specs.Refuses.{TableRefuses};
 ghost use Rattle.cue_table.specs.Valid.{IsValidTable};
 ghost use Rattle.cue_policies.specs.Inner.Parts.{AreFields, AreLimited, AreSoundParts, IsFit};
-ghost use Rattle.cue_policies.specs.Inner.Parts.{PartsRefuse, most_depth};
+ghost use Rattle.cue_policies.specs.Inner.Parts.{PartsRefuse, most_depth, two_parts};
+ghost use Rattle.cue_policies.specs.Rows.{HasMoreRows, IsViewError, row_count};
 ghost use Rattle.cue_policies.specs.Tables.{ViewOfTwo};
-ghost use Rattle.cue_policies.specs.WellFormed.{IsWellFormed};
+ghost use Rattle.cue_policies.specs.WellFormed.{IsPlain, IsWellFormed};
 ghost use Rattle.cue_policies.specs.declared.part.Role.TheVariants as roles;
 
 use crate::below::parts_below;
@@ -49,10 +51,29 @@ pub fn whole_view(
     ensures valid { IfOk result IsValidTable }
     ensures refused { IfOk result (λ view.
         SameAnswers (TableRefuses RowRefuses view) (ViewOfTwo layers.now policies.now)) }
+    ensures few { IfOk result (λ view.
+        ¬ IsPlain (TableRefuses RowRefuses policies.now) → row_count view ≤ limit) }
+    ensures large { IfErr result (IsViewError ((¬ IsPlain (TableRefuses RowRefuses policies.now))
+        × HasMoreRows limit (ViewOfTwo layers.now policies.now))) }
 {
     if is_plain(policies) {
         return Ok(layers.meet(alloc, policies)?);
     }
+    let parts = root_parts(alloc, layers, policies)?;
+    let view = view_of(alloc, &parts, limit)?;
+    Ok(count_rows(view.table, limit)?.table)
+}
+
+/// The parts of the root of a view.
+fn root_parts<'a>(
+    alloc: Global,
+    layers: &'a Table<Row>,
+    policies: &'a Table<Row>,
+) -> Result<Vec<ViewPart<'a>>, Memory>
+    ensures parts { IfOk result (λ parts. parts.items ≡ two_parts layers.now policies.now) }
+    ensures depth { OnOk result ((tree_depth layers.now ≤ step_limit)
+        × (tree_depth policies.now ≤ step_limit)) }
+{
     let mut parts = Vec::with_capacity(alloc, 2)?;
     parts.push(ViewPart {
         role: Role::Layer,
@@ -62,11 +83,7 @@ pub fn whole_view(
         role: Role::Policy,
         branch: policies.root(),
     })?;
-    let view = view_of(alloc, &parts, limit)?.table;
-    match rows_within(&view.root(), limit) {
-        Some(_) => Ok(view),
-        None => Err(ViewError::TooLarge),
-    }
+    Ok(parts)
 }
 
 /// The view of the parts of a place, where it has no more than `most` rows at its ends. The
@@ -79,6 +96,8 @@ fn view_of(alloc: Global, parts: &[ViewPart<'_>], most: u64) -> Result<CountedVi
         SameAnswers (TableRefuses RowRefuses view.table) (PartsRefuse parts.now)) }
     ensures fit { IfOk result (λ view.
         (top : Bool) → AreLimited top parts.now → IsFit top view.table) }
+    ensures rows { IfOk result (λ view. (view.rows ≤ row_count view.table) × (view.rows ≤ most)) }
+    ensures large { IfErr result (IsViewError (HasMoreRows most (PartsRefuse parts.now))) }
 {
     if let Some(part) = lone_layer(parts) {
         return count_rows(part.branch.to_table(alloc)?, most);
@@ -101,7 +120,13 @@ fn view_of(alloc: Global, parts: &[ViewPart<'_>], most: u64) -> Result<CountedVi
 }
 
 /// A table with all its rows, where it has no more than `most`.
-fn count_rows(table: Table<Row>, most: u64) -> Result<CountedView, ViewError> {
+fn count_rows(table: Table<Row>, most: u64) -> Result<CountedView, ViewError>
+    ensures table { IfOk result (λ view. view.table ≡ table) }
+    ensures form { IfOk result (λ view. IsTable Refuses IsRow view.table) }
+    ensures rows { IfOk result (λ view. (view.rows ≡ row_count table) × (view.rows ≤ most)) }
+    ensures large { IfErr result (IsViewError (IsTable Refuses IsRow table
+        × (most < row_count table))) }
+{
     match rows_within(&table.root(), most) {
         Some(rows) => Ok(CountedView { table, rows }),
         None => Err(ViewError::TooLarge),

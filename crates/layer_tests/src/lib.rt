@@ -3,6 +3,10 @@
 #![tactic(auto)]
 
 #[cfg(test)]
+mod calls;
+#[cfg(test)]
+mod limits;
+#[cfg(test)]
 mod maps;
 #[cfg(test)]
 mod views;

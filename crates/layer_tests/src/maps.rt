@@ -1,3 +1,4 @@
+use crate::calls::piece;
 use cue_layers::{
     LayerKind, Layers, LayersRefusal, Memory, Piece, Replica, Text, bad_place,
     joined_maps_are_of_both_sets, maps_join_in_any_order, one_map_of_puts, puts_are_added,
@@ -7,13 +8,6 @@ use std::test::Fail;
 
 /// The state bytes of a site that has accepted nothing.
 const OPENING: [u8; 13] = [0xfe, 0x43, 0x55, 0x45, 2, 0, 0, 0, 0, 0, 0, 0, 0];
-
-/// The pieces of one text.
-fn piece(alloc: Global, text: &str) -> Result<Vec<Piece>, Memory> {
-    let mut pieces = Vec::new(alloc);
-    pieces.push(Piece::Text(Text::from_str(alloc, text)?))?;
-    Ok(pieces)
-}
 
 /// The canonical text of what a layer says, and its revision.
 fn said(alloc: Global, map: &Layers, name: &str) -> Result<(String, u64), Memory> {

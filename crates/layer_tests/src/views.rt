@@ -1,6 +1,9 @@
 //! Views of layers and policies: worked answers, and allocations that fail.
 use cue_codec::decode;
-use cue_policies::{LayerKind, ViewError, fits, is_pattern, is_well_formed, whole_view};
+use cue_policies::{
+    LayerKind, ViewError, documents_of_views, fits, is_pattern, is_plain, is_well_formed,
+    policies_stay_well_formed, views_in_any_order, views_of_two, views_without_patterns, whole_view,
+};
 use cue_replica::{Refusal, Replica};
 use cue_report::tell_export;
 use cue_row::Row;
@@ -138,6 +141,32 @@ fn policies_that_are_well_formed(rt: HostRuntime) -> Result<(), Fail> {
     assert!(rt; !is_formed(rt.alloc(), "l: [...{\"*\": int}]\n")?);
     assert!(rt; !is_formed(rt.alloc(), "#P: {\"*\": int}\nx: #P\n")?);
     Ok(())
+}
+
+/// Whether the policy of a text has no pattern. Nothing is answered where it is not well formed.
+fn is_plain_text(alloc: Global, text: &str) -> Result<Option<bool>, Refusal> {
+    let policy = table(alloc, &[text])?;
+    if !is_well_formed(&policy) {
+        return Ok(None);
+    }
+    Ok(Some(is_plain(&policy)))
+}
+
+#[test]
+fn policies_without_patterns(rt: HostRuntime) -> Result<(), Fail> {
+    assert_eq!(rt; is_plain_text(rt.alloc(), SEC)?, Some(false));
+    assert_eq!(rt; is_plain_text(rt.alloc(), "services: web: tls: true\n")?, Some(true));
+    assert_eq!(rt; is_plain_text(rt.alloc(), "l: [...{\"*\": int}]\n")?, None);
+    Ok(())
+}
+
+#[test]
+fn laws_compute_nothing(_rt: HostRuntime) {
+    policies_stay_well_formed();
+    views_in_any_order();
+    views_of_two();
+    views_without_patterns();
+    documents_of_views();
 }
 
 #[test]

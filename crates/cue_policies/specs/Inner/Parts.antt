@@ -58,6 +58,12 @@ held_row roles.Pattern row = at_level Optional row
 abbrev pub part_of : ViewPart → Part
 part_of part = record { kind = kind_of part.role; refuses = held part.role part.branch }
 
+-- the parts of the root: a table for all layers proper, and one for all policies
+abbrev pub two_parts : Tree Row → Tree Row → List ViewPart
+two_parts layers policies =
+    record { role = roles.Layer; branch = layers }
+    ∷ record { role = roles.Policy; branch = policies } ∷ []
+
 -- what the view of the parts refuses
 abbrev pub PartsRefuse : List ViewPart → Refusals
 PartsRefuse = ViewRefuses part_of

@@ -1,8 +1,6 @@
 use Rattle.std.proofs.Common.{◌≡◌, arith}
-use Rattle.std.proofs.lemmas.List.Sorted.{IsPermutation-sym}
 use Rattle.std.proofs.lemmas.Result.{IfOk-weaker}
 use Rattle.cue_lattice.specs.OneOf.{OneOf}
-use Rattle.cue_table.proofs.ByHalves.{one_of_permutation}
 use Rattle.cue_policies.specs.Inner.Parts.{HasLabel, IsIn}
 use Rattle.cue_policies.proofs.Gains.{gains_start, gains_more, gains_done, none_in}
 use Rattle.cue_policies.proofs.names.labels_of.Goals as goal
@@ -18,14 +16,12 @@ loop-part-preserved c = λ text.
     (OneOf (λ part. HasLabel c.args.patterns part text) c.args.parts.now)
     c.loop-part-test.true c.part-item.is (c.in_ok-add_labels.ensures text) (c.loop-part.invariant text)
 
-pub returns : goal.returns
-returns c =
+pub returns-clause-labels : goal.returns-clause-labels
+returns-clause-labels c =
     let old = c.loop-part.labels.items in
-    let sorted = c.sort_by.new.self.items in
-    let moved = c.sort_by.ensures.permutation in
-    IfOk-weaker c.each_once.result _ _ (λ kept same text.
+    IfOk-weaker c.in_order.result _ _ (λ kept same text.
     let all = gains_done (IsIn text old) (λ part. HasLabel c.args.patterns part text) c.args.parts.now c.loop-part.part-index (OneOf (λ part. HasLabel c.args.patterns part text) c.args.parts.now)
     (omega (arith, c.loop-part-test.false)) (c.loop-part.invariant text) in (
-      λ h. all.0 (one_of_permutation (λ y. y ≡ text) sorted old (IsPermutation-sym old sorted moved) ((same text).0 h)),
-      λ h. (same text).1 (one_of_permutation (λ y. y ≡ text) old sorted moved (all.1 h)),
-    )) c.each_once.ensures
+      λ h. all.0 ((same text).0 h),
+      λ h. (same text).1 (all.1 h),
+    )) c.in_order.ensures.same

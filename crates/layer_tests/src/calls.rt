@@ -1,0 +1,22 @@
+//! What the tests of maps share.
+use cue_layers::{LayerKind, Layers, LayersRefusal, Memory, Piece, Text};
+use std::alloc::Global;
+
+/// The pieces of one text.
+pub fn piece(alloc: Global, text: &str) -> Result<Vec<Piece>, Memory> {
+    let mut pieces = Vec::new(alloc);
+    pieces.push(Piece::Text(Text::from_str(alloc, text)?))?;
+    Ok(pieces)
+}
+
+/// Puts one text.
+pub fn put(
+    alloc: Global,
+    map: &mut Layers,
+    kind: LayerKind,
+    name: &str,
+    text: &str,
+) -> Result<u64, LayersRefusal> {
+    let pieces = piece(alloc, text)?;
+    map.put(kind, name, pieces.as_slice())
+}

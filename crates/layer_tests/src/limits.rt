@@ -1,0 +1,66 @@
+//! The limit of a view, and the layers that alone make it too large.
+use crate::calls::put;
+use cue_layers::{LayerKind, Layers, LayersRefusal, Memory};
+use std::alloc::Global;
+use std::test::Fail;
+
+/// A policy by which each field below `x` has two fields, ten levels deep: 2^10 at the last one.
+const DEEP: &str = "x: {a: {}, b: {}, \"*\": {a: {}, b: {}, \"*\": {a: {}, b: {}, \"*\": {a: {}, b: {}, \
+\"*\": {a: {}, b: {}, \"*\": {a: {}, b: {}, \"*\": {a: {}, b: {}, \"*\": {a: {}, b: {}, \"*\": {a: {}, b: {}, \
+\"*\": {a: {}, b: {}}}}}}}}}}}\n";
+
+/// The names of the layers that alone make a view too large, each behind its kind.
+fn too_large(alloc: Global, map: &Layers, limit: u64) -> Result<String, Memory> {
+    let mut names = String::new(alloc);
+    for layer in map.too_large(alloc, limit)? {
+        match layer.kind {
+            LayerKind::Layer => names.push_str("layer ")?,
+            LayerKind::Policy => names.push_str("policy ")?,
+        }
+        names.push_str(layer.name.as_str())?;
+        names.push_str("\n")?;
+    }
+    Ok(names)
+}
+
+#[test]
+fn a_view_has_at_most_so_many_rows(rt: HostRuntime) -> Result<(), Fail> {
+    let alloc = rt.alloc();
+    let mut map = Layers::new(alloc)?;
+    put(alloc, &mut map, LayerKind::Layer, "web", "s: web: replicas: 3\n")?;
+    put(alloc, &mut map, LayerKind::Layer, "pay", "s: pay: replicas: 2\n")?;
+    put(alloc, &mut map, LayerKind::Layer, "other", "t: 1\n")?;
+    put(alloc, &mut map, LayerKind::Policy, "tls", "s: \"*\": tls: true\n")?;
+    // The root, `s`, `t`, and at each of two services three.
+    assert!(rt; map.view(alloc, 9).is_ok());
+    assert_eq!(rt; map.view(alloc, 8).err(), Some(LayersRefusal::ViewTooLarge));
+    assert_eq!(rt; too_large(alloc, &map, 9)?.as_str(), "");
+    let all = too_large(alloc, &map, 8)?;
+    assert_eq!(rt; all.as_str(), "layer other\nlayer pay\nlayer web\npolicy tls\n");
+    let some = too_large(alloc, &map, 7)?;
+    assert_eq!(rt; some.as_str(), "layer pay\nlayer web\npolicy tls\n");
+    Ok(())
+}
+
+#[test]
+fn views_without_patterns_have_no_limit(rt: HostRuntime) -> Result<(), Fail> {
+    let alloc = rt.alloc();
+    let mut map = Layers::new(alloc)?;
+    put(alloc, &mut map, LayerKind::Layer, "web", "a: 1\nb: 2\n")?;
+    put(alloc, &mut map, LayerKind::Policy, "cap", "a: <=5\n")?;
+    assert!(rt; map.view(alloc, 0).is_ok());
+    assert_eq!(rt; map.too_large(alloc, 0)?.len(), 0);
+    Ok(())
+}
+
+#[test]
+fn a_view_that_doubles_at_each_step_is_refused(rt: HostRuntime) -> Result<(), Fail> {
+    let alloc = rt.alloc();
+    let mut map = Layers::new(alloc)?;
+    put(alloc, &mut map, LayerKind::Policy, "deep", DEEP)?;
+    assert!(rt; map.view(alloc, 2048).is_ok());
+    assert_eq!(rt; map.view(alloc, 2047).err(), Some(LayersRefusal::ViewTooLarge));
+    let alone = too_large(alloc, &map, 100)?;
+    assert_eq!(rt; alone.as_str(), "policy deep\n");
+    Ok(())
+}
