@@ -9,4 +9,6 @@ mod limits;
 #[cfg(test)]
 mod maps;
 #[cfg(test)]
+mod starved;
+#[cfg(test)]
 mod views;
