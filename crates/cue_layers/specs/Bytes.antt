@@ -1,5 +1,5 @@
 -- Layers bytes: a mark, the version, how many layers there are, and the layers in their order.
-use Rattle.std.specs.Prelude.{◌≡◌, ◌≢◌, ◌⊎◌, ℕ, List, [], ◌∷◌, ◌++◌, length}
+use Rattle.std.specs.Prelude.{◌≡◌, ◌≢◌, ◌⊎◌, ℕ, ◌<◌, ◌^◌, List, [], ◌∷◌, ◌++◌, length, map}
 use Rattle.std.specs.Int.{w64, to_be_bytes}
 use Rattle.cue_lattice.specs.Refusal.{refusal_at}
 use Rattle.cue_lattice.specs.declared.refusal.Kind.TheVariants as faults
@@ -9,6 +9,7 @@ use Rattle.cue_layers.specs.declared.layer.Layer.{Layer}
 use Rattle.cue_layers.specs.declared.refusal.LayersRefusal.{LayersRefusal}
 use Rattle.cue_layers.specs.declared.refusal.LayersRefusal.TheVariants.{NotLayers, Store}
 use Rattle.cue_layers.specs.Layers.{IsMap, kind_byte}
+use Rattle.cue_layers.specs.Maps.{IsMapOf, put_of}
 use Rattle.cue_layers.specs.Refusals.{out_of_memory}
 
 -- how all layers bytes begin
@@ -54,3 +55,15 @@ IsLayersFault bytes why =
 -- why bytes are refused: memory may run out
 abbrev pub IsLayersRefusal : List ℕ → LayersRefusal → Type 0
 IsLayersRefusal bytes why = IsLayersFault bytes why ⊎ (why ≡ out_of_memory)
+
+-- bytes of a memory are the layers bytes of one map at most
+abbrev pub HaveOneMap : Type 0
+HaveOneMap =
+    (bytes : List ℕ) (a b : List Layer) → length bytes < 2 ^ 64 → IsLayersBytes bytes a
+    → IsLayersBytes bytes b → a ≡ b
+
+-- a map that was read from bytes is the map of its layers as puts
+abbrev pub AreOfTheirPuts : Type 0
+AreOfTheirPuts =
+    (bytes : List ℕ) (layers : List Layer) → length bytes < 2 ^ 64 → IsLayersBytes bytes layers
+    → IsMapOf (map put_of layers) layers

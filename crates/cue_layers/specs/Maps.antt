@@ -1,7 +1,8 @@
 -- Maps of layers, and the sets of puts that they are of.
 use Rattle.std.specs.Prelude.{List, [], ◌∷◌, ◌++◌}
-use Rattle.cue_lattice.specs.World.{Piece}
+use Rattle.cue_lattice.specs.World.{Piece, state}
 use Rattle.cue_policies.specs.declared.kind.LayerKind.TheVariants as kinds
+use Rattle.cue_replica.specs.Language.{language}
 use Rattle.cue_layers.specs.declared.layer.Layer.{Layer}
 use Rattle.cue_layers.specs.Layers.{IsMap}
 use Rattle.cue_layers.specs.Puts.{Put, of_puts, of_layers, AreCurrent}
@@ -10,6 +11,16 @@ use Rattle.cue_layers.specs.Puts.{Put, of_puts, of_layers, AreCurrent}
 abbrev pub commons_put : List Piece → Put
 commons_put pieces =
     record { kind = kinds.Layer; name = []; revision = 0; pieces = pieces }
+
+-- a layer of a map as a put, whose only piece is the state bytes of its table
+abbrev pub put_of : Layer → Put
+put_of layer =
+    record {
+      kind = layer.kind;
+      name = layer.name;
+      revision = layer.revision;
+      pieces = state (language.written layer.content) ∷ [];
+    }
 
 -- The map of a set of puts. The commons is there also where nobody put anything into it.
 pub record IsMapOf (puts : List Put) (layers : List Layer) : Type 0 where

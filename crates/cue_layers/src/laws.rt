@@ -1,4 +1,5 @@
 //! Laws of maps of layers, each on a call that carries it and does nothing.
+ghost use Rattle.cue_layers.specs.Bytes.{AreOfTheirPuts, HaveOneMap};
 ghost use Rattle.cue_layers.specs.Join.{AddsPuts, AreEqualOfOneSet, JoinsPuts, IsCommutative, IsAssociative, IsIdempotent};
 
 /// Maps of one set of puts are equal, in whatever order and however often the puts came.
@@ -21,4 +22,11 @@ pub fn maps_join_in_any_order()
 /// What a put leaves is the map of one put more, and so is what goes into the commons.
 pub fn puts_are_added()
     ensures { AddsPuts }
+{}
+
+/// Bytes are the layers bytes of one map at most, and a map that was read is the map of its layers as
+/// puts.
+pub fn layers_bytes_are_exact()
+    ensures one { HaveOneMap }
+    ensures puts { AreOfTheirPuts }
 {}

@@ -119,6 +119,7 @@ impl Layers {
             ((why ≡ memory) × ¬ language.IsTextRefusedAtOnce text.now)
             ⊎ language.IsTextFault text.now why) }
         ensures err { OnErr result (self.new ≡ self.old) }
+        ensures is_map { IsMap self.new }
     {
         putting::submit(&mut self.entries, text)
     }
@@ -132,6 +133,7 @@ impl Layers {
             ((why ≡ memory) × ¬ language.IsStateRefusedAtOnce bytes.now)
             ⊎ language.IsStateFault bytes.now why) }
         ensures err { OnErr result (self.new ≡ self.old) }
+        ensures is_map { IsMap self.new }
     {
         putting::take(&mut self.entries, bytes)
     }

@@ -21,7 +21,8 @@ pub use cue_lattice::{Memory, Refusal, Text};
 pub use cue_policies::{LayerKind, ViewError};
 pub use cue_replica::Replica;
 pub use laws::{
-    joined_maps_are_of_both_sets, maps_join_in_any_order, one_map_of_puts, puts_are_added,
+    joined_maps_are_of_both_sets, layers_bytes_are_exact, maps_join_in_any_order, one_map_of_puts,
+    puts_are_added,
 };
 pub use layer::Layer;
 pub use layers::Layers;

@@ -1,5 +1,5 @@
 //! The view of a map of layers.
-ghost use Rattle.std.specs.Prelude.{◌≡◌, ◌<◌, ◌↔◌, length, remove, vec_len, IfErr, IfOk, IsTrue, OnOk};
+ghost use Rattle.std.specs.Prelude.{◌≡◌, ◌<◌, ◌≤◌, ◌↔◌, length, remove, vec_len, IfErr, IfOk, IsTrue, OnOk};
 ghost use Rattle.std.specs.List.{AllByRecursion};
 ghost use Rattle.cue_policies.specs.Laws.{IsUnifiedOf};
 ghost use Rattle.cue_policies.specs.Rows.{IsViewError};
@@ -138,6 +138,7 @@ fn thin_out(alloc: Global, mut layers: Vec<Layer>, limit: u64) -> Result<Vec<Lay
     requires large { IsTooLarge limit layers.items }
     ensures picked { IfOk result (λ fewer. IsPickedFrom fewer.items layers.items) }
     ensures large { IfOk result (λ fewer. IsTooLarge limit fewer.items) }
+    ensures fewer { IfOk result (λ fewer. vec_len fewer ≤ vec_len layers) }
     ensures least { IfOk result (λ fewer. vec_len fewer ≡ vec_len layers
         → IsLeastTooLarge limit fewer.items) }
 {

@@ -5,15 +5,14 @@ use Rattle.std.specs.Prelude.{◌≡◌, ◌↔◌, ◌⊎◌, ℕ, ◌<◌, Lis
 use Rattle.std.specs.Prelude.{slice_get, slice_set, unwrap_or, Some, Vec}
 use Rattle.std.specs.Global.{Global}
 use Rattle.cue_lattice.specs.World.{AllAlong, text, state}
-use Rattle.cue_lattice.specs.declared.refusal.Refusal.{Refusal}
-use Rattle.cue_policies.specs.declared.kind.LayerKind.{LayerKind}
 use Rattle.cue_replica.specs.Language.{Table, language}
 use Rattle.cue_replica.specs.Reports as reports
 use Rattle.cue_layers.specs.declared.layer.Layer.{Layer}
+use Rattle.cue_layers.specs.declared.refusal.LayersRefusal.{LayersRefusal}
 use Rattle.cue_layers.specs.declared.refusal.LayersRefusal.TheVariants.{Store}
 use Rattle.cue_layers.specs.Bytes.{mark, layers_bytes, IsLayersBytes, IsLayersFault}
 use Rattle.cue_layers.specs.Join.{IsPut}
-use Rattle.cue_layers.specs.Maps.{IsMapOf, commons_put}
+use Rattle.cue_layers.specs.Maps.{IsMapOf, commons_put, put_of}
 use Rattle.cue_layers.specs.Names.{IsName}
 use Rattle.cue_layers.specs.Puts.{Put, SameMembers}
 use Rattle.cue_layers.specs.Refusals.{piece_of, out_of_memory, IsPutFault}
@@ -45,16 +44,6 @@ add sets site puts =
       messages = sets.messages;
     }
 
--- a layer of a map from outside, as a put
-abbrev pub put_of : Layer → Put
-put_of layer =
-    record {
-      kind = layer.kind;
-      name = layer.name;
-      revision = layer.revision;
-      pieces = state (language.written layer.content) ∷ [];
-    }
-
 -- bytes from outside are read as layers where they begin with the mark, and else as a state
 abbrev pub AreLayers : List ℕ → Type 0
 AreLayers bytes = (rest : List ℕ) × (bytes ≡ mark ++ rest)
@@ -66,16 +55,15 @@ AreAccepted bytes puts =
     ((¬ AreLayers bytes) × language.IsState bytes × (puts ≡ commons_put (state bytes ∷ []) ∷ []))
     ⊎ ((layers : List Layer) × IsLayersBytes bytes layers × (puts ≡ map put_of layers))
 
+-- why a state from outside is refused
+abbrev pub IsStateFaultOf : List ℕ → LayersRefusal → Type 0
+IsStateFaultOf bytes (Store why) = language.IsStateFault bytes why
+IsStateFaultOf bytes why = ⊥
+
 -- why bytes from outside are refused
-abbrev pub IsForeignFault : List ℕ → Outcome → Type 0
-IsForeignFault bytes outcome =
-    ((¬ AreLayers bytes) × ((why : Refusal) × (outcome ≡ outcomes.Refused (Store why))
-    × language.IsStateFault bytes why))
-    ⊎ (AreLayers bytes × OneFault bytes outcome)
-  where
-    abbrev OneFault : List ℕ → Outcome → Type 0
-    OneFault given (outcomes.Refused why) = IsLayersFault given why
-    OneFault given other = ⊥
+abbrev pub IsForeignFault : List ℕ → LayersRefusal → Type 0
+IsForeignFault bytes why =
+    (AreLayers bytes × IsLayersFault bytes why) ⊎ ((¬ AreLayers bytes) × IsStateFaultOf bytes why)
 
 -- what an event that was done adds: the sets after an event with this outcome
 abbrev pub Leads : Sets → Event → Outcome → Sets → Type 0
@@ -124,7 +112,7 @@ IsAnswer sets old (events.Deliver site message) outcomes.Accepted = Unit {0}
 IsAnswer sets old (events.Foreign site bytes) outcomes.Accepted =
     (puts : List Put) × AreAccepted bytes.items puts
 IsAnswer sets old (events.Foreign site bytes) (outcomes.Refused why) =
-    IsForeignFault bytes.items (outcomes.Refused why)
+    IsForeignFault bytes.items why
 IsAnswer sets old event outcome = ⊥
 
 -- Memory may run out, but hides neither a bad name nor a fault that is found with no memory.

@@ -1,3 +1,10 @@
+ghost use Rattle.std.specs.Prelude.{◌≡◌, ◌<◌, ◌↔◌, map, IfOk, IsTrue, vec_len, vec_capacity};
+ghost use Rattle.cue_layers.specs.Refusals.{piece_of};
+ghost use Rattle.cue_layers_world.specs.World.{Sets, AreLayers, IsHistory};
+ghost use Rattle.cue_layers_world.specs.Inner.Events.{Agrees, Delivers, Happens, HappensAt};
+ghost use Rattle.cue_layers_world.specs.Inner.Events.{Joins, KeepsRoom, Puts, Sends, Submits, Takes};
+ghost use Rattle.cue_layers_world.specs.Inner.Events.{TakesState, AreNew};
+
 use crate::{Event, Outcome, World};
 use cue_layers::{LayerKind, Layers, LayersRefusal, Memory, Piece};
 use std::alloc::Global;
@@ -12,7 +19,9 @@ fn put_at(
     kind: LayerKind,
     name: &str,
     pieces: &[Piece],
-) -> Outcome {
+) -> Outcome
+    ensures { HappensAt (Puts kind name.now (map piece_of pieces.now)) maps.old site maps.new result }
+{
     if site >= maps.len() {
         return Outcome::NoSuch;
     }
@@ -22,8 +31,10 @@ fn put_at(
     }
 }
 
-/// Hands a text to the commons of a site.
-fn submit_at(maps: &mut [Layers], site: usize, text: &str) -> Outcome {
+/// Submits a text to the commons of a site.
+fn submit_at(maps: &mut [Layers], site: usize, text: &str) -> Outcome
+    ensures { HappensAt (Submits text.now) maps.old site maps.new result }
+{
     if site >= maps.len() {
         return Outcome::NoSuch;
     }
@@ -33,8 +44,10 @@ fn submit_at(maps: &mut [Layers], site: usize, text: &str) -> Outcome {
     }
 }
 
-/// Hands a site state bytes for its commons.
-fn take_state_at(maps: &mut [Layers], site: usize, bytes: &[u8]) -> Outcome {
+/// Takes state bytes into the commons of a site.
+fn take_state_at(maps: &mut [Layers], site: usize, bytes: &[u8]) -> Outcome
+    ensures { HappensAt (TakesState bytes.now) maps.old site maps.new result }
+{
     if site >= maps.len() {
         return Outcome::NoSuch;
     }
@@ -44,24 +57,42 @@ fn take_state_at(maps: &mut [Layers], site: usize, bytes: &[u8]) -> Outcome {
     }
 }
 
-/// Joins the map with these layers bytes to that of a site.
-fn join_at(alloc: Global, maps: &mut [Layers], site: usize, bytes: &[u8]) -> Outcome {
-    if site >= maps.len() {
-        return Outcome::NoSuch;
-    }
+/// Joins the map with these layers bytes to another one.
+fn join_bytes(alloc: Global, layers: &mut Layers, bytes: &[u8]) -> Outcome
+    ensures { Joins bytes.now layers.old layers.new result }
+{
     let other = match Layers::read(alloc, bytes) {
         Ok(other) => other,
         Err(why) => return Outcome::Refused(why),
     };
-    match maps[site].join(other) {
+    match layers.join(other) {
         Ok(()) => Outcome::Accepted,
         Err(memory) => Outcome::Refused(LayersRefusal::from(memory)),
     }
 }
 
-/// Hands a site bytes from outside.
-fn take_at(alloc: Global, maps: &mut [Layers], site: usize, bytes: &[u8]) -> Outcome {
-    if bytes.starts_with(&MARK) {
+/// Joins the map with these layers bytes to that of a site.
+fn join_at(alloc: Global, maps: &mut [Layers], site: usize, bytes: &[u8]) -> Outcome
+    ensures { HappensAt (Joins bytes.now) maps.old site maps.new result }
+{
+    if site >= maps.len() {
+        return Outcome::NoSuch;
+    }
+    join_bytes(alloc, &mut maps[site], bytes)
+}
+
+/// Whether bytes are read as layers.
+fn are_layers(bytes: &[u8]) -> bool
+    ensures { IsTrue result ↔ AreLayers bytes.now }
+{
+    bytes.starts_with(&MARK)
+}
+
+/// Takes bytes from outside: layers, or a state.
+fn take_at(alloc: Global, maps: &mut [Layers], site: usize, bytes: &[u8]) -> Outcome
+    ensures { HappensAt (Takes bytes.now) maps.old site maps.new result }
+{
+    if are_layers(bytes) {
         return join_at(alloc, maps, site, bytes);
     }
     take_state_at(maps, site, bytes)
@@ -73,7 +104,11 @@ fn send_from(
     maps: &[Layers],
     site: usize,
     messages: &mut Vec<Vec<u8>>,
-) -> Outcome {
+) -> Outcome
+    requires room { vec_len messages.old < vec_capacity messages.old }
+    ensures sends { Sends maps.now site messages.old.items messages.new.items result }
+    ensures keeps { KeepsRoom messages.old messages.new }
+{
     if site >= maps.len() {
         return Outcome::NoSuch;
     }
@@ -86,14 +121,16 @@ fn send_from(
     Outcome::Sent(number)
 }
 
-/// Hands a message to a site.
+/// Delivers a message to a site.
 fn deliver_to(
     alloc: Global,
     maps: &mut [Layers],
     site: usize,
     messages: &[Vec<u8>],
     message: usize,
-) -> Outcome {
+) -> Outcome
+    ensures { Delivers messages.now message maps.old site maps.new result }
+{
     if message >= messages.len() {
         return Outcome::NoSuch;
     }
@@ -106,7 +143,13 @@ fn happen(
     maps: &mut [Layers],
     messages: &mut Vec<Vec<u8>>,
     event: &Event,
-) -> Outcome {
+) -> Outcome
+    requires room { vec_len messages.old < vec_capacity messages.old }
+    ensures happens { (sets : Sets) → Agrees maps.old messages.old.items sets
+        → Happens maps.old messages.old.items event.now
+        maps.new messages.new.items result sets }
+    ensures keeps { KeepsRoom messages.old messages.new }
+{
     match event {
         Event::Put {
             site,
@@ -122,7 +165,9 @@ fn happen(
 }
 
 /// A world of new sites.
-fn opening(alloc: Global, sites: usize) -> Result<Vec<Layers>, Memory> {
+fn opening(alloc: Global, sites: usize) -> Result<Vec<Layers>, Memory>
+    ensures { IfOk result (λ maps. AreNew sites maps.items) }
+{
     let mut maps = Vec::with_capacity(alloc, sites)?;
     for _ in 0..sites {
         maps.push(Layers::new(alloc)?)?;
@@ -130,11 +175,18 @@ fn opening(alloc: Global, sites: usize) -> Result<Vec<Layers>, Memory> {
     Ok(maps)
 }
 
-/// What a list of events comes to among this many new sites.
+/// What a list of events comes to among so many new sites, whatever the events are: puts, texts for
+/// the commons, maps sent, messages delivered late, repeatedly, out of order or never, and bytes from
+/// outside.
 ///
-/// An event that finds no memory is refused and changes nothing. `Memory` is answered, and no
-/// world, only where the lists of the world couldn't be made.
-pub fn run(alloc: Global, sites: usize, events: &[Event]) -> Result<World, Memory> {
+/// An event that finds no memory is refused and changes nothing. `Memory` is answered, and no world,
+/// only where the lists of the world couldn't be made.
+pub fn run(alloc: Global, sites: usize, events: &[Event]) -> Result<World, Memory>
+    // Each event has an outcome that the definition of a world allows at its moment. For each key
+    // each site has the current layer of exactly the puts that it accepted, directly or inside
+    // messages. Of sites with the same puts the same is told.
+    ensures { IfOk result (IsHistory sites events.now) }
+{
     let mut maps = opening(alloc, sites)?;
     let mut messages = Vec::with_capacity(alloc, events.len())?;
     let mut outcomes = Vec::with_capacity(alloc, events.len())?;

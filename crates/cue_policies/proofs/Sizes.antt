@@ -126,6 +126,14 @@ apart_more left next l fields new table cut items h =
       once = subst AreOnce (sym items) (apart.once_push field_step field_tree fields (Label l, table) h.once (h.past l first));
     }
 
+-- one more field, and its rows
+pub counted_more :
+    (l : List ℕ) (fields new : List (Step × Tree Row)) (table : Tree Row) (count more : ℕ) → new ≡ fields ++ (Label l, table) ∷ [] → count ≤ rows_of_fields fields → more ≤ row_count table → count + more ≤ rows_of_fields new
+counted_more l fields new table count more items counted few =
+    let sum = apart.rows_push field_step field_tree fields (Label l, table) in
+    let rows = rows_counted table in
+    subst (λ fs. count + more ≤ rows_of_fields fs) (sym items) (omega (arith, sum, rows, counted, few))
+
 module _ (parts : List ViewPart) (view : Tree Row) (form : IsTable Refuses IsRow view) (same : SameAnswers (Answers view) (PartsRefuse parts)) where
   found_or_free : (field : Step × Tree Row) → IsField parts field → (tree_rows field.1 ≡ 0) ⊎ (find (step_of field.0) (below view) ≡ Some field.1)
   found_or_free field is = by (step_into view (label is.at)) refl

@@ -1,22 +1,70 @@
 //! Compares worlds of layers with lists of events: the outcome of each event, and at the end the
-//! names, the revisions and the layers bytes of each site. `layer_lists FILE` reads a file, of which
-//! each line is a list.
+//! keys, the revisions, the layers bytes and the answers of each site. `layer_lists FILE..` reads
+//! files, of which each line is a list.
 #![tactic(auto)]
 
-mod list;
+mod counts;
+mod events;
+mod outcome;
+mod parts;
+mod site;
 
 use anyhow::Context;
-use cue_layers_world::run;
-use list::{events_of, is_outcome, same_bytes, same_names};
+use counts::Counts;
+use cue_layers_world::{Layers, Outcome, run};
+use events::events_of;
+use outcome::is_outcome;
+use parts::members;
 use serde_json::Value;
+use site::difference;
 use std::{env, fs};
 
-/// How many agree, and how many do not.
-#[derive(Drop)]
-struct Counts {
-    outcomes: u64,
-    sites: u64,
-    wrong: u64,
+/// The limit of views where a list has none.
+const LIMIT: u64 = 10_000_000;
+
+/// Compares what each event came to with what the list has.
+fn compare_outcomes(
+    rt: &HostRuntime,
+    number: usize,
+    list: &Value,
+    outcomes: &[Outcome],
+    counts: &mut Counts,
+) -> anyhow::Result<()> {
+    let wanted = members(list, "outcomes")?;
+    if wanted.len() != outcomes.len() {
+        println!(rt; "line {number}: another number of outcomes")?;
+        counts.add_wrong();
+    }
+    for (i, (found, wanted)) in outcomes.iter().zip(wanted).enumerate() {
+        if is_outcome(found, wanted)? {
+            counts.add_outcome();
+        } else {
+            println!(rt; "line {number}: event {i} came to {found:?}")?;
+            counts.add_wrong();
+        }
+    }
+    Ok(())
+}
+
+/// Compares each site with what the list has of it.
+fn compare_sites(
+    rt: &HostRuntime,
+    number: usize,
+    list: &Value,
+    maps: &[Layers],
+    counts: &mut Counts,
+) -> anyhow::Result<()> {
+    let limit = list.get("limit").and_then(Value::as_u64).unwrap_or(LIMIT);
+    for (i, (map, wanted)) in maps.iter().zip(members(list, "at")?).enumerate() {
+        match difference(rt.alloc(), map, wanted, limit)? {
+            None => counts.add_site(),
+            Some(what) => {
+                println!(rt; "line {number}: site {i} has other {what}")?;
+                counts.add_wrong();
+            }
+        }
+    }
+    Ok(())
 }
 
 /// Compares what the events of a line come to with what the line has.
@@ -36,47 +84,20 @@ fn compare_line(
     let world = run(alloc, sites as usize, events.as_slice())
         .ok()
         .context("out of memory")?;
-    let outcomes = list
-        .get("outcomes")
-        .and_then(Value::as_array)
-        .context("a line without outcomes")?;
-    for (i, (found, wanted)) in world.outcomes.iter().zip(outcomes).enumerate() {
-        if is_outcome(found, wanted)? {
-            counts.outcomes = counts.outcomes.saturating_add(1);
-        } else {
-            println!(rt; "line {number}: event {i} came to {found:?}")?;
-            counts.wrong = counts.wrong.saturating_add(1);
-        }
-    }
-    let at = list
-        .get("at")
-        .and_then(Value::as_array)
-        .context("a line without sites at the end")?;
-    for (i, (map, wanted)) in world.maps.iter().zip(at).enumerate() {
-        if same_names(map, wanted)? && same_bytes(alloc, map, wanted)? {
-            counts.sites = counts.sites.saturating_add(1);
-        } else {
-            println!(rt; "line {number}: site {i} has another map")?;
-            counts.wrong = counts.wrong.saturating_add(1);
-        }
-    }
-    Ok(())
+    compare_outcomes(rt, number, &list, world.outcomes.as_slice(), counts)?;
+    compare_sites(rt, number, &list, world.maps.as_slice(), counts)
 }
 
 fn main(rt: HostRuntime) -> anyhow::Result<()> {
-    let mut counts = Counts {
-        outcomes: 0,
-        sites: 0,
-        wrong: 0,
-    };
     for path in env::args(&rt)?.skip(1) {
+        let mut counts = Counts::new();
         let all = fs::read_to_string(&rt, path.as_str())?;
         let mut number = 0usize;
         for line in all.as_str().lines() {
             number = number.saturating_add(1);
             compare_line(&rt, number, line, &mut counts)?;
         }
+        println!(rt; "{path}: {counts}")?;
     }
-    println!(rt; "{} outcomes and {} maps as they must be, {} others", counts.outcomes, counts.sites, counts.wrong)?;
     Ok(())
 }

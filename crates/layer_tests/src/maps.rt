@@ -1,7 +1,7 @@
 use crate::calls::piece;
 use cue_layers::{
     LayerKind, Layers, LayersRefusal, Memory, Piece, Replica, Text, bad_place,
-    joined_maps_are_of_both_sets, maps_join_in_any_order, one_map_of_puts, puts_are_added,
+    joined_maps_are_of_both_sets, layers_bytes_are_exact, maps_join_in_any_order, one_map_of_puts, puts_are_added,
 };
 use std::alloc::Global;
 use std::test::Fail;
@@ -190,4 +190,5 @@ fn laws_compute_nothing(_rt: HostRuntime) {
     joined_maps_are_of_both_sets();
     maps_join_in_any_order();
     puts_are_added();
+    layers_bytes_are_exact();
 }

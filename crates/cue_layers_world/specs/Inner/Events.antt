@@ -2,6 +2,7 @@
 use Rattle.std.specs.Prelude.{◌≡◌, ◌⊎◌, ℕ, ◌+◌, ◌<◌, ◌≤◌, ◌^◌, List, [], ◌∷◌, ◌++◌, length, Some}
 use Rattle.std.specs.Prelude.{slice_get, slice_set, Vec, vec_len, vec_capacity}
 use Rattle.std.specs.Global.{Global}
+use Rattle.std.specs.List.{AllByRecursion}
 use Rattle.cue_lattice.specs.Refusal.{memory}
 use Rattle.cue_lattice.specs.World.{AllAlong, Piece}
 use Rattle.cue_lattice.specs.declared.refusal.Refusal.{Refusal}
@@ -12,7 +13,7 @@ use Rattle.cue_layers.specs.declared.refusal.LayersRefusal.TheVariants.{Store}
 use Rattle.cue_layers.specs.Bytes.{layers_bytes, IsLayersBytes, IsLayersRefusal}
 use Rattle.cue_layers.specs.Join.{IsPut, CommonsGrows}
 use Rattle.cue_layers.specs.Layers.{IsMap}
-use Rattle.cue_layers.specs.Maps.{IsJoin}
+use Rattle.cue_layers.specs.Maps.{IsJoin, IsMapOf}
 use Rattle.cue_layers.specs.Refusals.{IsPutRefusal, out_of_memory}
 use Rattle.cue_layers_world.specs.World.{Sets, AreLayers, IsMessageOf, IsOutcome, IsSiteOf, Leads}
 use Rattle.cue_layers_world.specs.declared.world.Event.{Event}
@@ -24,6 +25,10 @@ pub record Agrees (maps : List (List Layer)) (messages : List (Vec ℕ Global)) 
     : Type 0 where
   pub sites : AllAlong IsSiteOf maps sets.sites
   pub sent : AllAlong IsMessageOf messages sets.messages
+
+-- so many maps of no puts
+abbrev pub AreNew : ℕ → List (List Layer) → Type 0
+AreNew sites maps = (length maps ≡ sites) × AllByRecursion (IsMapOf []) maps
 
 -- What may happen at a site: there is none of this number, and nothing changes; or its map, and no
 -- other, takes a step.
