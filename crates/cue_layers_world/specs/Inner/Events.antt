@@ -84,7 +84,7 @@ Sends maps site old new (Sent number) =
     (layers : List Layer) × (bytes : Vec ℕ Global) × (slice_get maps site ≡ Some layers)
     × (bytes.items ≡ layers_bytes layers) × (number ≡ length old) × (new ≡ old ++ bytes ∷ [])
 Sends maps site old new (Refused why) =
-    (site < length maps) × (why ≡ out_of_memory) × (new ≡ old)
+    (layers : List Layer) × (slice_get maps site ≡ Some layers) × (why ≡ out_of_memory) × (new ≡ old)
 Sends maps site old new NoSuch = (length maps ≤ site) × (new ≡ old)
 Sends maps site old new outcome = ⊥
 
