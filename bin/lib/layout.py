@@ -62,8 +62,9 @@ class Item:
     """A declaration of a struct or an element of a list: its comments, its key and its value, each laid out."""
 
     def __init__(self):
-        self.before, self.blank, self.key, self.value, self.behind = [], False, "", "", ""
-        self.comma = self.is_chain = False
+        self.before, self.key, self.value, self.behind = [], "", "", ""
+        # A blank line in front of all, and one between the comments and the declaration.
+        self.blank = self.gap = self.comma = self.is_chain = False
 
 
 def indented(text, depth):
@@ -179,6 +180,7 @@ class Layout:
         item, word = Item(), self.word()
         item.before = word.comments
         item.blank = not is_first and (word.comments[0].blank if word.comments else word.blank)
+        item.gap = bool(word.comments) and word.blank
         word.comments = []
         start = self.at
         try:
@@ -272,7 +274,7 @@ def stretches(items):
     a field of a field stand right behind their label."""
     stretch = []
     for item in items:
-        if stretch and (item.blank or stands_alone(item) or stands_alone(stretch[-1])):
+        if stretch and (item.blank or item.gap or stands_alone(item) or stands_alone(stretch[-1])):
             yield stretch
             stretch = []
         stretch.append(item)
@@ -296,6 +298,7 @@ def laid_out(items, end, opening=""):
             lines += [""] * bool(item.blank and lines)
             for i, comment in enumerate(item.before):
                 lines += [""] * bool(i and comment.blank) + [comment.text]
+            lines += [""] * item.gap
             width = column if "\n" not in text and column <= WIDTH else 0
             lines.append(f"{text:<{width}} {item.behind}" if item.behind else text)
     for comment in end:
