@@ -1,5 +1,6 @@
 -- The fields of a view have no more rows together than the view.
-use Rattle.std.proofs.Common.{◌≡◌, ◌↔◌, ◌⊎◌, inl, inr, ⊎_elim, ◌<◌, ◌≤◌, ◌-◌, ◌+◌, ℕ, List, [], ◌∷◌, ◌++◌, Option, Some, None, refl, sym, ap, subst, ◌∙◌, arith}
+use Rattle.std.proofs.Common.{◌≡◌, ◌↔◌, ◌⊎◌, inl, inr, ⊎_elim, ◌<◌, ◌≤◌, ◌-◌, ◌+◌, ℕ, true, List, [], ◌∷◌, ◌++◌, Option, Some, None, Result, Ok, Err, refl, sym, ap, subst, ◌∙◌, arith}
+use Rattle.std.specs.Prelude.{IfErr}
 use Rattle.std.specs.Cmp.Lexicographic.{slice_cmp}
 use Rattle.std.specs.List.{AllByRecursion}
 use Rattle.std.specs.List.Sorted.{IsStrictlySortedBy}
@@ -47,6 +48,10 @@ view_error errors.TooLarge f h = f h
 pub memory_error : (B : Type 0) (e : ViewError) → IsViewError ⊥ e → IsViewError B e
 memory_error B e h = view_error e (λ never. absurd never) h
 
+pub if_err_weaker : {A E : Type 0} (r : Result A E) (P Q : E → Type 0) → ((e : E) → P e → Q e) → IfErr r P → IfErr r Q
+if_err_weaker (Ok x) P Q f h = h
+if_err_weaker (Err e) P Q f h = f e h
+
 -- ---- tables with equal answers
 pub same_tables : (a b : Tree Row) → IsTable Refuses IsRow a → IsTable Refuses IsRow b → SameAnswers (Answers a) (Answers b) → a ≡ b
 same_tables a b h k same = exact_tree Refuses IsRow same_rows a b h k (λ path question.
@@ -60,6 +65,13 @@ pub more_rows : (most : ℕ) (table : Tree Row) (refuses : Path → Question →
 more_rows most table refuses form same more other form' same' =
     let is = same_tables table other form form' (λ path question. (λ r. (same' path question).1 ((same path question).0 r), λ r. (same path question).1 ((same' path question).0 r))) in
     subst (λ t. most < row_count t) is more
+
+-- and they are those of all refusals with the same answers
+pub more_as : (most : ℕ) (a b : Path → Question → Type 0) → SameAnswers a b → HasMoreRows most a → HasMoreRows most b
+more_as most a b same more table form is = more table form (λ path question.
+    let s = same path question in
+    let i = is path question in
+    (λ r. s.1 (i.0 r), λ r. i.1 (s.0 r)))
 
 -- ---- the branch of a table at a label
 into_label : (tree : Tree Row) (l : List ℕ) → step_into tree (label l) ≡ find (label l) (below tree)
