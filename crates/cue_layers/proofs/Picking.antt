@@ -1,5 +1,5 @@
 -- Layers of a list, without some of its layers.
-use Rattle.std.proofs.Common.{◌≡◌, ◌⊎◌, inl, inr, ⊎_elim, ℕ, zero, suc, ◌≤◌, ◌<◌, List, [], ◌∷◌, ◌++◌, length, take, drop, remove, refl, sym, ap, subst, arith}
+use Rattle.std.proofs.Common.{◌≡◌, ◌⊎◌, inl, inr, ⊎_elim, ℕ, zero, suc, ◌≤◌, ◌<◌, ◌+◌, List, [], ◌∷◌, ◌++◌, length, take, drop, remove, refl, sym, ap, subst, arith}
 use Rattle.std.specs.List.{AllByRecursion}
 use Rattle.cue_layers.specs.declared.layer.Layer.{Layer}
 use Rattle.cue_layers.specs.View.{IsPickedFrom}
@@ -33,7 +33,7 @@ all_picked P a [] all h = subst (AllByRecursion P) (sym h) tt
 all_picked P a (y ∷ ys) all (inl h) = all_picked P a ys all.1 h
 all_picked P a (y ∷ ys) all (inr h) = subst (AllByRecursion P) (sym h.1) (all.0, all_picked P h.0 ys all.1 h.2)
 
-pub removed_length : (layers : List Layer) (k : ℕ) → k < length layers → length (remove layers k) < length layers
+pub removed_length : (layers : List Layer) (k : ℕ) → k < length layers → length (remove layers k) + 1 ≡ length layers
 removed_length [] k less = absurd (omega arith)
 removed_length (layer ∷ layers) zero less = omega arith
 removed_length (layer ∷ layers) (suc k) less = let fewer = removed_length layers k (omega arith) in omega (arith, fewer)

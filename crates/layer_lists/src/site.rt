@@ -34,7 +34,7 @@ pub fn difference(
         return Ok(Some("layers bytes"));
     }
     for (question, name) in QUESTIONS {
-        if !answers(alloc, map, question, part_of(wanted, name)?, limit)? {
+        if !is_answer(alloc, map, question, part_of(wanted, name)?, limit)? {
             return Ok(Some(name));
         }
     }
@@ -84,7 +84,7 @@ fn has_bytes(alloc: Global, map: &Layers, wanted: &Value) -> anyhow::Result<bool
 }
 
 /// What is answered of the view of a map, or the line of its refusal.
-fn reply(alloc: Global, map: &Layers, question: Question, limit: u64) -> anyhow::Result<Reply> {
+fn answer(alloc: Global, map: &Layers, question: Question, limit: u64) -> anyhow::Result<Reply> {
     match map.view(alloc, limit) {
         Ok(view) => {
             let told = answer_to(alloc, question, &view)
@@ -108,14 +108,14 @@ fn reply(alloc: Global, map: &Layers, question: Question, limit: u64) -> anyhow:
 }
 
 /// Whether the view of a map gives this answer: an exit status and a text.
-fn answers(
+fn is_answer(
     alloc: Global,
     map: &Layers,
     question: Question,
     wanted: &Value,
     limit: u64,
 ) -> anyhow::Result<bool> {
-    let found = reply(alloc, map, question, limit)?;
+    let found = answer(alloc, map, question, limit)?;
     Ok(part(wanted, 0)?.as_u64() == Some(u64::from(found.status))
         && text(wanted, 1)? == found.text.as_str())
 }
