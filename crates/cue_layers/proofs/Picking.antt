@@ -9,7 +9,8 @@ picked_self [] = refl
 picked_self (layer ∷ layers) = inr (layers, refl, picked_self layers)
 
 pub picked_remove : (layers : List Layer) (k : ℕ) → IsPickedFrom (remove layers k) layers
-picked_remove [] k = refl
+picked_remove [] zero = refl
+picked_remove [] (suc k) = refl
 picked_remove (layer ∷ layers) zero = inl (picked_self layers)
 picked_remove (layer ∷ layers) (suc k) = inr (remove layers k, refl, picked_remove layers k)
 

@@ -15,4 +15,4 @@ loop-at-init c = record {
 }
 
 pub returns-clause-fewer : goal.returns-clause-fewer
-returns-clause-fewer c = picked_length c.loop-at.layers.items c.args.layers.items c.loop-at.invariant.picked
+returns-clause-fewer c = omega (arith, picked_length c.loop-at.layers.items c.args.layers.items c.loop-at.invariant.picked, c.loop-at.layers.ok.0, c.args.layers.ok.0)
