@@ -10,7 +10,6 @@ pub mod Merging
 pub mod Naming
 pub mod OneSpelling
 pub mod Opening
-pub mod Picking
 pub mod Pieces
 pub mod Places
 pub mod ReadBytes

@@ -12,7 +12,7 @@ use Rattle.cue_policies.specs.declared.kind.LayerKind.TheVariants as kinds
 use Rattle.cue_policies.proofs.ViewLaws.{two}
 use Rattle.cue_replica.specs.Language.{Table, language}
 use Rattle.cue_layers.specs.declared.layer.Layer.{Layer}
-use Rattle.cue_layers.specs.View.{parts_of, AreTooLarge, HasNoPattern, IsLeastTooLarge, IsPickedFrom, IsTooLarge, IsViewOf}
+use Rattle.cue_layers.specs.View.{parts_of, HasNoPattern, IsTooLarge, IsViewOf}
 use Rattle.cue_layers.specs.Inner.Viewing.{LayerRefuses}
 use Rattle.cue_layers.proofs.Viewing.{one_map}
 
@@ -53,8 +53,3 @@ module _ (layers : List Layer) (policies : Table) (is : IsUnifiedOf kinds.Policy
         let many = large.rows view is_view in
         let less = few (λ plain. large.patterns (plain_all plain)) in
         omega (arith, many, less)
-
--- layers that alone are too large are some
-pub are_too_large : (limit : ℕ) (layers some : List Layer) → IsPickedFrom some layers → IsLeastTooLarge limit some → AreTooLarge limit layers some
-are_too_large limit layers [] picked least = absurd (least.large.patterns tt)
-are_too_large limit layers (layer ∷ others) picked least = (picked, least)

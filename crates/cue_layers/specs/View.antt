@@ -1,5 +1,5 @@
 -- The view of a map of layers: what a site exports, reports and prints.
-use Rattle.std.specs.Prelude.{◌≡◌, ◌⊎◌, ℕ, ◌<◌, List, [], ◌∷◌, map, length, remove}
+use Rattle.std.specs.Prelude.{◌≡◌, ◌⊎◌, ℕ, ◌<◌, List, map}
 use Rattle.std.specs.List.{AllByRecursion}
 use Rattle.cue_lattice.specs.Question.{SameAnswers}
 use Rattle.cue_policies.specs.Laws.{Parts}
@@ -35,21 +35,3 @@ pub record IsTooLarge (limit : ℕ) (layers : List Layer) : Type 0 where
 abbrev pub IsViewRefusal : ℕ → List Layer → LayersRefusal → Type 0
 IsViewRefusal limit layers why =
     ((why ≡ ViewTooLarge) × IsTooLarge limit layers) ⊎ (why ≡ out_of_memory)
-
--- the first list is the second without some of its layers
-abbrev pub IsPickedFrom : List Layer → List Layer → Type 0
-IsPickedFrom some [] = some ≡ []
-IsPickedFrom some (layer ∷ layers) =
-    IsPickedFrom some layers
-    ⊎ ((others : List Layer) × (some ≡ layer ∷ others) × IsPickedFrom others layers)
-
--- The view of these layers is too large, and without any one of them it is not.
-pub record IsLeastTooLarge (limit : ℕ) (layers : List Layer) : Type 0 where
-  pub large : IsTooLarge limit layers
-  pub least : (k : ℕ) → k < length layers → ¬ IsTooLarge limit (remove layers k)
-
--- Layers of a list that alone make its view too large; or none, where it is not.
-abbrev pub AreTooLarge : ℕ → List Layer → List Layer → Type 0
-AreTooLarge limit layers [] = ¬ IsTooLarge limit layers
-AreTooLarge limit layers (layer ∷ others) =
-    IsPickedFrom (layer ∷ others) layers × IsLeastTooLarge limit (layer ∷ others)

@@ -1,5 +1,5 @@
 //! The view of a map of layers.
-ghost use Rattle.std.specs.Prelude.{◌≡◌, ◌<◌, ◌≤◌, ◌↔◌, length, remove, vec_len, IfErr, IfOk, IsTrue, OnOk};
+ghost use Rattle.std.specs.Prelude.{◌≡◌, ◌↔◌, IfErr, IfOk, IsTrue, OnOk};
 ghost use Rattle.std.specs.List.{AllByRecursion};
 ghost use Rattle.cue_policies.specs.Laws.{IsUnifiedOf};
 ghost use Rattle.cue_policies.specs.Rows.{IsViewError};
@@ -8,11 +8,10 @@ ghost use Rattle.cue_policies.specs.declared.kind.LayerKind.TheVariants as kinds
 ghost use Rattle.cue_replica.specs.Language.{language};
 ghost use Rattle.cue_layers.specs.Layers.{IsLayer};
 ghost use Rattle.cue_layers.specs.View.{parts_of, IsViewOf, IsTooLarge, IsViewRefusal};
-ghost use Rattle.cue_layers.specs.View.{AreTooLarge, IsLeastTooLarge, IsPickedFrom};
 ghost use Rattle.cue_layers.specs.Inner.Viewing.{AddsLayer};
 
 use crate::layer::Layer;
-use crate::layers::{Layers, copy_all};
+use crate::layers::Layers;
 use crate::refusal::LayersRefusal;
 use cue_lattice::Memory;
 use cue_policies::{LayerKind, ViewError, whole_view};
@@ -90,76 +89,4 @@ impl Layers {
     {
         Ok(view_of(alloc, self.entries(), limit)?)
     }
-
-    /// The layers that alone make the view too large, in the order of the map. None of them can be
-    /// left out. Nothing is returned where the view is not too large.
-    pub fn too_large(&self, alloc: Global, limit: u64) -> Result<Vec<Layer>, Memory>
-        ensures { IfOk result (λ layers. AreTooLarge limit self.now layers.items) }
-    {
-        if !is_too_large(alloc, self.entries(), limit)? {
-            return Ok(Vec::new(alloc));
-        }
-        least_of(alloc, copy_all(alloc, self.entries())?, limit)
-    }
-}
-
-/// Whether the view of layers is too large.
-fn is_too_large(alloc: Global, layers: &[Layer], limit: u64) -> Result<bool, Memory>
-    requires { AllByRecursion IsLayer layers.now }
-    ensures { IfOk result (λ is. IsTrue is ↔ IsTooLarge limit layers.now) }
-{
-    match view_of(alloc, layers, limit) {
-        Ok(_) => Ok(false),
-        Err(ViewError::TooLarge) => Ok(true),
-        Err(ViewError::Memory(memory)) => Err(memory),
-    }
-}
-
-/// Layers of a list whose view is too large, of which none can be left out.
-fn least_of(alloc: Global, mut layers: Vec<Layer>, limit: u64) -> Result<Vec<Layer>, Memory>
-    requires each { AllByRecursion IsLayer layers.items }
-    requires large { IsTooLarge limit layers.items }
-    ensures picked { IfOk result (λ least. IsPickedFrom least.items layers.items) }
-    ensures least { IfOk result (λ least. IsLeastTooLarge limit least.items) }
-{
-    loop {
-        let count = layers.len();
-        layers = thin_out(alloc, layers, limit)?;
-        if layers.len() == count {
-            return Ok(layers);
-        }
-    }
-}
-
-/// Layers of a list whose view is too large: each in turn is left out where the view of the others
-/// still is.
-fn thin_out(alloc: Global, mut layers: Vec<Layer>, limit: u64) -> Result<Vec<Layer>, Memory>
-    requires each { AllByRecursion IsLayer layers.items }
-    requires large { IsTooLarge limit layers.items }
-    ensures picked { IfOk result (λ fewer. IsPickedFrom fewer.items layers.items) }
-    ensures large { IfOk result (λ fewer. IsTooLarge limit fewer.items) }
-    ensures fewer { IfOk result (λ fewer. vec_len fewer ≤ vec_len layers) }
-    ensures least { IfOk result (λ fewer. vec_len fewer ≡ vec_len layers
-        → IsLeastTooLarge limit fewer.items) }
-{
-    let mut at = 0;
-    while at < layers.len() {
-        let others = without(alloc, layers.as_slice(), at)?;
-        if is_too_large(alloc, others.as_slice(), limit)? {
-            layers = others;
-        } else {
-            at += 1;
-        }
-    }
-    Ok(layers)
-}
-
-/// The layers of a list but the one at an index.
-fn without(alloc: Global, layers: &[Layer], at: usize) -> Result<Vec<Layer>, Memory>
-    requires { at < length layers.now }
-    ensures { IfOk result (λ others. others.items ≡ remove layers.now at) }
-{
-    let mut others = copy_all(alloc, layers)?;
-    others.remove(at);
-    Ok(others)
 }
