@@ -138,13 +138,13 @@ module _ {R X : Type 0} (step : X → Step) (tree : X → Tree R) where
       here out go =
           let more = go out.others out.once (found_other s branch children out.others out.gone (λ x is. found x (out.among x is))) in
           let one : tree_rows (tree out.one) ≤ tree_rows branch = ⊎_elim
-              (λ e. omega (arith, e))
-              (λ e.
-              let first : find (step out.one) (child s branch children) ≡ Some branch = ap (λ o. if_equal o branch (find (step out.one) children)) (ap (λ t. step_cmp t s) out.at ∙ same_step s) in
-              let both : Some (tree out.one) ≡ Some branch = sym e ∙ first in
-              let same : tree out.one ≡ branch = cc in
-              omega (arith, ap (λ t. tree_rows t) same))
-              (found out.one out.is_in) in
+          (λ e. omega (arith, e))
+          (λ e.
+          let first : find (step out.one) (child s branch children) ≡ Some branch = ap (λ o. if_equal o branch (find (step out.one) children)) (ap (λ t. step_cmp t s) out.at ∙ same_step s) in
+          let both : Some (tree out.one) ≡ Some branch = sym e ∙ first in
+          let same : tree out.one ≡ branch = cc in
+          omega (arith, ap (λ t. tree_rows t) same))
+          (found out.one out.is_in) in
           omega (arith, out.rows, more, one)
 
       elsewhere : ¬ OneOf (IsAt s) xs → rows_of_all xs ≤ children_rows children → rows_of_all xs ≤ tree_rows branch + children_rows children

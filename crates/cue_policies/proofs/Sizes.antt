@@ -206,9 +206,9 @@ module _ (parts : List ViewPart) (view : Tree Row) (form : IsTable Refuses IsRow
           let new = fields ++ (Label l, tree) ∷ [] in
           let again : AreOnce new = apart.once_push field_step field_tree fields (Label l, tree) once past in
           let are : AreFound view new = λ field is. ⊎_elim
-              (λ old. fields_found fields made field old)
-              (λ last. inr (subst (λ (one : Step × Tree Row). find (step_of one.0) (below view) ≡ Some one.1) last (sym (into_label view l) ∙ e)))
-              ((pushed (λ y. y ≡ field) fields new (Label l, tree) refl).0 is) in
+          (λ old. fields_found fields made field old)
+          (λ last. inr (subst (λ (one : Step × Tree Row). find (step_of one.0) (below view) ≡ Some one.1) last (sym (into_label view l) ∙ e)))
+          ((pushed (λ y. y ≡ field) fields new (Label l, tree) refl).0 is) in
           let here = apart.rows_apart field_step field_tree (below view) new again are in
           let sum = apart.rows_push field_step field_tree fields (Label l, tree) in
           let all = below_rows view in

@@ -49,11 +49,11 @@ returns-in_err-count_rows-clause-large c =
     let are = c.deref.ensures.value ∙ c.in_ok-parts.ensures.parts in
     let not_plain : ¬ IsPlain (Answers c.args.policies.now) = λ plain. let yes = c.is_plain.ensures.1 plain in let no = c.if-is_plain.false in cc in
     let same : SameAnswers (Answers c.in_ok-view.view.table) (ViewOfTwo c.args.layers.now c.args.policies.now) = λ path question.
-        let here = c.in_ok-view.ensures.refused path question in
-        let two = two_refuse c.args.layers.now c.args.policies.now path question in (
-          λ h. two.0 (subst (λ parts. PartsRefuse parts path question) are (here.0 h)),
-          λ h. here.1 (subst (λ parts. PartsRefuse parts path question) (sym are) (two.1 h)),
-        ) in
+    let here = c.in_ok-view.ensures.refused path question in
+    let two = two_refuse c.args.layers.now c.args.policies.now path question in (
+      λ h. two.0 (subst (λ parts. PartsRefuse parts path question) are (here.0 h)),
+      λ h. here.1 (subst (λ parts. PartsRefuse parts path question) (sym are) (two.1 h)),
+    ) in
     let p = err_from_is_err_and c.from_residual-in_err-count_rows.result c.from_residual-in_err-count_rows.ensures.1 in
     rw (p.1, p.2)
     (view_error {B = (¬ IsPlain (Answers c.args.policies.now)) × HasMoreRows c.args.limit (ViewOfTwo c.args.layers.now c.args.policies.now)} _ (λ more. (not_plain, more_rows c.args.limit c.in_ok-view.view.table (ViewOfTwo c.args.layers.now c.args.policies.now) more.0 same more.1)) c.in_err-count_rows.ensures.large)
