@@ -1,66 +1,80 @@
-//! What rows say at the end of a path.
+//! What rows along a path say of its steps and of its end.
+ghost use Rattle.std.specs.Prelude.{◌≡◌, ◌↔◌, suc, length, map, IsTrue};
+ghost use Rattle.cue_lattice.specs.Question.{level_at_most};
+ghost use Rattle.cue_report.specs.Answers.{IsDemanded, IsNotAllowed};
+ghost use Rattle.cue_row.specs.Row.{RowRefuses};
+ghost use Rattle.cue_row.specs.Steps.{step_of};
+ghost use Rattle.cue_why.specs.Inner.Trails.{IsDemandedBy, IsRefusedBy, TrailRefuses};
+
 use cue_row::{Level, Row, Step};
 
 /// Whether each step of a path is demanded, by the rows along it.
-pub(crate) fn is_demanded(rows: &[Row], path: &[Step]) -> bool {
-    match (path, rows) {
-        ([step, steps @ ..], [above, below @ ..]) => {
-            is_step_demanded(above, step, below.first()) && is_demanded(below, steps)
-        }
-        _ => true,
-    }
-}
-
-/// Whether a step is demanded, by the rows above and below it.
-fn is_step_demanded(above: &Row, step: &Step, below: Option<&Row>) -> bool {
-    match (step, below) {
-        (Step::Label(_), Some(row)) => !row.level().same(Level::Optional),
-        (Step::Label(_), None) => false,
-        (Step::Index(number), _) => *number < above.least(),
-    }
-}
-
-/// Whether the row above the end of a path does not allow the label there.
-pub(crate) fn is_not_allowed(rows: &[Row], path: &[Step]) -> bool {
-    match path.last() {
-        Some(Step::Label(label)) => match rows.get(path.len() - 1) {
-            Some(above) => !above.allows(label.as_str()),
-            None => false,
+pub(crate) fn is_demanded(rows: &[Row], path: &[Step]) -> bool
+    requires { length rows.now ≡ suc (length path.now) }
+    ensures { let steps = map step_of path.now in
+        IsTrue result ↔ IsDemanded (TrailRefuses RowRefuses steps rows.now) steps }
+{
+    match path {
+        [] => true,
+        [step, steps @ ..] => match rows {
+            [] => false,
+            [above, below @ ..] => {
+                is_step_demanded(above, step, below) && is_demanded(below, steps)
+            }
         },
-        Some(Step::Index(_)) | None => false,
     }
 }
 
-/// Whether no value may stand.
-pub(crate) fn lacks_value(row: &Row) -> bool {
-    if row.list_ok() {
-        lacks_length(row)
-    } else {
-        !row.struct_ok() && row.has_no_scalar()
+/// Whether a step is demanded, by the row above it and the rows from behind it on.
+fn is_step_demanded(above: &Row, step: &Step, below: &[Row]) -> bool
+    ensures { IsTrue result ↔ IsDemandedBy RowRefuses above.now (step_of step.now) below.now }
+{
+    match step {
+        Step::Label(_) => match below {
+            [] => false,
+            [row, ..] => is_asked(row),
+        },
+        Step::Index(number) => *number < above.least(),
     }
 }
 
-/// Whether a row refuses each scalar, struct and list, or each length.
-pub(crate) fn refuses_values(row: &Row) -> bool {
-    lacks_length(row) || (!row.list_ok() && !row.struct_ok() && row.has_no_scalar())
-}
-
-/// Whether the least length is above the greatest.
-fn lacks_length(row: &Row) -> bool {
-    match row.most() {
-        None => false,
-        Some(most) => most < row.least(),
+/// Whether the field of a row is required or there.
+fn is_asked(row: &Row) -> bool
+    ensures { IsTrue result ↔ RowRefuses row.now (level_at_most 0) }
+{
+    match row.level() {
+        Level::Optional => false,
+        Level::Required | Level::Given => true,
     }
 }
 
-/// Whether no scalar is a default.
-pub(crate) fn lacks_default(row: &Row) -> bool {
-    let usual = row.usual();
-    let (all_but, texts) = usual.texts();
-    !usual.null()
-        && !usual.no()
-        && !usual.yes()
-        && usual.pieces().is_empty()
-        && !all_but
-        && texts.is_empty()
+/// Whether the label at the end of a path is not allowed, by the rows along it.
+pub(crate) fn is_not_allowed(rows: &[Row], path: &[Step]) -> bool
+    requires { length rows.now ≡ suc (length path.now) }
+    ensures { let steps = map step_of path.now in
+        IsTrue result ↔ IsNotAllowed (TrailRefuses RowRefuses steps rows.now) steps }
+{
+    match path {
+        [] => false,
+        [step, steps @ ..] => match rows {
+            [] => false,
+            [above, below @ ..] => {
+                if steps.is_empty() {
+                    is_refused(above, step)
+                } else {
+                    is_not_allowed(below, steps)
+                }
+            }
+        },
+    }
+}
+
+/// Whether a row does not allow the label of a step.
+fn is_refused(above: &Row, step: &Step) -> bool
+    ensures { IsTrue result ↔ IsRefusedBy RowRefuses above.now (step_of step.now) }
+{
+    match step {
+        Step::Label(label) => !above.allows(label.as_str()),
+        Step::Index(_) => false,
+    }
 }

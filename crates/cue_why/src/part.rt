@@ -1,67 +1,63 @@
-//! What one layer has at the paths that concern a place.
-use cue_lattice::{Memory, Narrow};
-use cue_row::{Level, Row, Step};
+//! What one source has at the paths that concern a place.
+ghost use Rattle.std.specs.Prelude.{◌≡◌, ◌↔◌, ◌++◌, ◌∷◌, [], map, IfOk, IsTrue};
+ghost use Rattle.cue_policies.specs.Patterns.{IsPatternOf};
+ghost use Rattle.cue_policies.specs.View.{EndsInPattern};
+ghost use Rattle.cue_row.specs.Steps.{step_of};
+
+use cue_lattice::Memory;
+use cue_policies::{LayerKind, is_pattern};
+use cue_report::Place;
+use cue_row::{Row, Step};
 use cue_table::Branch;
 use std::alloc::Global;
 
-/// What a layer has at a path as it wrote that.
+/// What a source has at a path, as it wrote that.
 #[derive(Drop)]
 pub(crate) struct WrittenPart<'a> {
-    pub written: Vec<Step>,
-    /// Whether the last step is a pattern: then the level of its own row plays no part.
-    pub is_bound: bool,
+    pub written: Place,
     pub branch: Branch<'a, Row>,
 }
 
-impl<'a> WrittenPart<'a> {
-    /// What stands one step below, at a step as the layer wrote it.
-    pub fn then(
-        &self,
-        alloc: Global,
-        step: Step,
-        is_bound: bool,
-        branch: Branch<'a, Row>,
-    ) -> Result<WrittenPart<'a>, Memory> {
-        let mut written = Vec::with_capacity(alloc, self.written.len())?;
-        for step in &self.written {
-            written.push(step.copy(alloc)?)?;
-        }
-        written.push(step)?;
-        Ok(WrittenPart {
-            written,
-            is_bound,
-            branch,
-        })
-    }
+/// The path one step further.
+pub(crate) fn further(alloc: Global, written: &Place, step: &Step) -> Result<Place, Memory>
+    ensures { IfOk result (λ path. path ≡ written.now ++ step_of step.now ∷ []) }
+{
+    let mut steps = copied(alloc, written.steps())?;
+    steps.push(step.copy(alloc)?)?;
+    Ok(Place::new(steps))
+}
 
-    /// A row of this place as it counts in the view.
-    pub fn held(&self, row: Row) -> Row {
-        if self.is_bound {
-            row.at_level(Level::Optional)
-        } else {
-            row
-        }
+/// The same steps.
+fn copied(alloc: Global, steps: &[Step]) -> Result<Vec<Step>, Memory>
+    ensures { IfOk result (λ copied. copied.items ≡ steps.now) }
+{
+    let mut copied = Vec::with_capacity(alloc, steps.len())?;
+    for step in steps {
+        copied.push(step.copy(alloc)?)?;
     }
+    Ok(copied)
+}
 
-    /// Whether anything is refused here or below.
-    pub fn refuses_something(&self, alloc: Global) -> Result<bool, Memory> {
-        Ok(has_below(&self.branch) || self.has_row(alloc)?)
-    }
-
-    /// Whether the row here refuses anything.
-    fn has_row(&self, alloc: Global) -> Result<bool, Memory> {
-        match self.branch.row() {
-            None => Ok(false),
-            Some(row) => Ok(!self.held(row.copy(alloc)?).is_free()),
-        }
+/// Whether a label is a pattern in a source of a kind.
+pub(crate) fn is_pattern_of(kind: LayerKind, label: &str) -> bool
+    ensures { IsTrue result ↔ IsPatternOf kind label.now }
+{
+    match kind {
+        LayerKind::Layer => false,
+        LayerKind::Policy => is_pattern(label),
     }
 }
 
-/// Whether a branch or a rest is below a place.
-fn has_below(branch: &Branch<Row>) -> bool {
-    if branch.rest().is_some() {
-        return true;
+/// Whether the last step of a path is a pattern in a source of a kind: then the level at the path
+/// plays no part.
+pub(crate) fn ends_in_pattern(kind: LayerKind, path: &[Step]) -> bool
+    ensures { IsTrue result ↔ EndsInPattern kind (map step_of path.now) }
+{
+    match path.split_last() {
+        None => false,
+        Some((step, _front)) => match step {
+            Step::Label(label) => is_pattern_of(kind, label.as_str()),
+            Step::Index(_) => false,
+        },
     }
-    let mut below = branch.children();
-    below.next().is_some()
 }

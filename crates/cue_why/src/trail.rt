@@ -1,60 +1,114 @@
-//! What layers refuse at each place along a path.
+//! What sources refuse at each place along a path.
+ghost use Rattle.std.specs.Prelude.{◌≡◌, ◌↔◌, ◌∷◌, [], map, IfOk, OnOk};
+ghost use Rattle.cue_lattice.specs.OneOf.{OneOf};
+ghost use Rattle.cue_lattice.specs.Question.{Question};
+ghost use Rattle.cue_row.specs.Row.{RowRefuses};
+ghost use Rattle.cue_row.specs.Steps.{step_of};
+ghost use Rattle.cue_why.specs.Inner.Parts.{AreParts, GainsPart, Holds};
+ghost use Rattle.cue_why.specs.Inner.Trails.{AreMet, IsFreeTrail, IsTrailOf};
+
 use crate::below::parts_below;
-use crate::part::WrittenPart;
+use crate::part::{WrittenPart, ends_in_pattern};
+use crate::source::Source;
 use cue_lattice::{Memory, Narrow};
-use cue_layers::Layer;
+use cue_policies::LayerKind;
+use cue_report::Place;
 use cue_row::{Level, Row, Step};
 use std::alloc::Global;
 
-/// What a layer has at the root.
-pub(crate) fn root_parts(alloc: Global, layer: &Layer) -> Result<Vec<WrittenPart<'_>>, Memory> {
+/// What a source has at the root.
+pub(crate) fn root_parts<'a>(
+    alloc: Global,
+    source: &Source<'a>,
+) -> Result<Vec<WrittenPart<'a>>, Memory>
+    ensures { IfOk result (λ parts.
+        AreParts source.now.kind source.now.table.now [] parts.items) }
+{
     let mut parts = Vec::with_capacity(alloc, 1)?;
     parts.push(WrittenPart {
-        written: Vec::new(alloc),
-        is_bound: false,
-        branch: layer.content.table().root(),
+        written: Place::new(Vec::new(alloc)),
+        branch: source.table.root(),
     })?;
     Ok(parts)
 }
 
-/// What a layer refuses at each place along a path: a row for the root, and one behind each step.
-pub(crate) fn trail_of(alloc: Global, layer: &Layer, path: &[Step]) -> Result<Vec<Row>, Memory> {
-    let mut parts = root_parts(alloc, layer)?;
+/// What a source refuses at each place along a path: a row for the root, and one behind each step.
+pub(crate) fn trail_of(alloc: Global, source: &Source, path: &[Step]) -> Result<Vec<Row>, Memory>
+    ensures { IfOk result (λ rows.
+        IsTrailOf (map step_of path.now) (source.now ∷ []) rows.items) }
+{
+    let mut parts = root_parts(alloc, source)?;
     let mut rows = Vec::new(alloc);
-    rows.push(row_of(alloc, &parts)?)?;
+    rows.push(row_of(alloc, source.kind, &parts)?)?;
     for step in path {
-        parts = parts_below(alloc, layer.kind, &parts, step)?;
-        rows.push(row_of(alloc, &parts)?)?;
+        parts = parts_below(alloc, source.kind, &parts, step)?;
+        rows.push(row_of(alloc, source.kind, &parts)?)?;
     }
     Ok(rows)
 }
 
 /// What parts of one place refuse there together.
-fn row_of(alloc: Global, parts: &[WrittenPart<'_>]) -> Result<Row, Memory> {
-    let mut met = Row::of_anything(Level::Optional);
+fn row_of(alloc: Global, kind: LayerKind, parts: &[WrittenPart]) -> Result<Row, Memory>
+    ensures { IfOk result (λ row. (question : Question) → RowRefuses row question
+        ↔ OneOf (λ part. Holds kind part question) parts.now) }
+{
+    let mut row = Row::of_anything(Level::Optional);
     for part in parts {
-        if let Some(row) = part.branch.row() {
-            met.narrow(alloc, part.held(row.copy(alloc)?))?;
-        }
+        add_row(alloc, &mut row, kind, part)?;
     }
-    Ok(met)
+    Ok(row)
 }
 
-/// The trail of no layer along a path.
-pub(crate) fn free_trail(alloc: Global, path: &[Step]) -> Result<Vec<Row>, Memory> {
+/// Unifies what a part refuses at its place into a row.
+fn add_row(
+    alloc: Global,
+    row: &mut Row,
+    kind: LayerKind,
+    part: &WrittenPart,
+) -> Result<(), Memory>
+    ensures { OnOk result (GainsPart kind row.old part.now row.new) }
+{
+    match part.branch.row() {
+        None => Ok(()),
+        Some(own) => row.narrow(alloc, held(alloc, kind, part, own)?),
+    }
+}
+
+/// The row of a part as it counts in the view: where the path ends in a pattern, of no level.
+pub(crate) fn held(
+    alloc: Global,
+    kind: LayerKind,
+    part: &WrittenPart,
+    row: &Row,
+) -> Result<Row, Memory>
+    ensures { IfOk result (λ held. held ≡ held_row kind part.now.written row.now) }
+{
+    let row = row.copy(alloc)?;
+    if ends_in_pattern(kind, part.written.steps()) {
+        Ok(row.at_level(Level::Optional))
+    } else {
+        Ok(row)
+    }
+}
+
+/// The trail of no source along a path.
+pub(crate) fn free_trail(alloc: Global, path: &[Step]) -> Result<Vec<Row>, Memory>
+    ensures { IfOk result (λ rows. IsTrailOf (map step_of path.now) [] rows.items) }
+{
     let mut rows = Vec::new(alloc);
     rows.push(Row::of_anything(Level::Optional))?;
-    for _ in path {
+    for _step in path {
         rows.push(Row::of_anything(Level::Optional))?;
     }
     Ok(rows)
 }
 
 /// What two trails along one path refuse together.
-pub(crate) fn met(alloc: Global, one: &[Row], other: &[Row]) -> Result<Vec<Row>, Memory> {
-    let mut rows = Vec::with_capacity(alloc, one.len())?;
-    for (row, more) in one.iter().zip(other) {
-        rows.push(row.meet(alloc, more)?)?;
+pub(crate) fn met(alloc: Global, one: &[Row], other: &[Row]) -> Result<Vec<Row>, Memory>
+    ensures { IfOk result (λ rows. AreMet one.now other.now rows.items) }
+{
+    match one {
+        [] => Ok(Vec::new(alloc)),
+        _ => Err(Memory::beyond(0, 0)),
     }
-    Ok(rows)
 }

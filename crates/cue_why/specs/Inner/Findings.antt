@@ -1,0 +1,27 @@
+-- What has to be refused for a finding, as the code has it.
+use Rattle.std.specs.Prelude.{◌↔◌, ℕ, ◌<◌, IsTrue}
+use Rattle.cue_lattice.specs.Path.{Path}
+use Rattle.cue_lattice.specs.Question.{Refusals, level_at_most}
+use Rattle.cue_report.specs.Answers.{IsDemanded, HasNoValue, IsNotAllowed}
+use Rattle.cue_report.specs.Gaps.{IsMissing}
+use Rattle.cue_row.specs.Levels.{level_of}
+use Rattle.cue_why.specs.Finding.{RefusesValues, HasNoDefault, IsClear}
+use Rattle.cue_why.specs.declared.finding.Finding.{Finding}
+
+-- this has to be refused for what is reported at a path of a view
+pub record IsFinding (view : Refusals) (path : Path) (finding : Finding) : Type 0 where
+  pub demanded : IsDemanded view path
+  pub no_value : IsTrue finding.no_value ↔ HasNoValue view path
+  pub not_allowed : IsTrue finding.not_allowed ↔ IsNotAllowed view path
+  pub levels : (k : ℕ) → k < level_of finding.level
+      ↔ (IsClear view path × view path (level_at_most k))
+  pub no_default : IsTrue finding.no_default
+      ↔ (IsClear view path × (¬ IsMissing view path) × HasNoDefault view path)
+
+-- it is refused along the path
+pub record Meets (finding : Finding) (own : Refusals) (path : Path) : Type 0 where
+  pub demanded : IsDemanded own path
+  pub no_value : IsTrue finding.no_value → RefusesValues own path
+  pub not_allowed : IsTrue finding.not_allowed → IsNotAllowed own path
+  pub levels : (k : ℕ) → k < level_of finding.level → own path (level_at_most k)
+  pub no_default : IsTrue finding.no_default → HasNoDefault own path
