@@ -1,8 +1,13 @@
 -- What rows along a path say of its steps and of its end.
-use Rattle.std.proofs.Common.{◌≡◌, ◌↔◌, ◌⊎◌, inl, inr, ℕ, suc, List, [], ◌∷◌, ◌++◌, length, refl, sym, ap, subst, append-nil}
+use Rattle.std.proofs.Common.{◌≡◌, ◌↔◌, ◌<◌, ◌-◌, ℕ, List, [], ◌∷◌, ◌++◌, length, map, take, drop, get_or, refl, sym, ap, subst, ◌∙◌, append-nil, arith}
+use Rattle.std.proofs.lemmas.List.{take_rest}
 use Rattle.cue_lattice.specs.Path.{Step, label, index, Path}
 use Rattle.cue_lattice.specs.Question.{Question, Refusals, allows, level_at_most, length_at_most}
 use Rattle.cue_report.specs.Answers.{further, IsStepDemanded, IsDemanded, IsNotAllowed}
+use Rattle.cue_row.specs.Row.{RowRefuses}
+use Rattle.cue_row.specs.Steps.{step_of}
+use Rattle.cue_row.specs.declared.parts.RowParts.{RowParts as Row}
+use Rattle.cue_row.specs.declared.step.Step.{Step as Code}
 use Rattle.cue_why.specs.Inner.Trails.{TrailRefuses, IsDemandedBy, IsRefusedBy}
 use Rattle.cue_why.proofs.Trails.{pushed_at}
 
@@ -75,3 +80,45 @@ module _ {R : Type 0} (refuses : R → Question → Type 0) where
   end_is path front row question e =
       let at = pushed_at refuses path [] front row question e in
       subst (λ p. Refuses p (front ++ row ∷ []) path question ↔ refuses row question) (append-nil path) at
+
+-- ---- as the code cuts lists
+module _ (path : List Code) (rows : List Row) (step : Code) (above : Row) (rest : List Code) (below : List Row) where
+  abbrev Whole : Refusals
+  Whole = TrailRefuses RowRefuses (map step_of path) rows
+
+  abbrev Part : Refusals
+  Part = TrailRefuses RowRefuses (map step_of rest) below
+
+  -- both lists are cut behind their first elements
+  pub record AreCut : Type 0 where
+    pub path : path ≡ step ∷ rest
+    pub rows : rows ≡ above ∷ below
+
+  pub demanded_cut : AreCut → IsDemanded Whole (map step_of path) ↔ (IsDemandedBy RowRefuses above (step_of step) below × IsDemanded Part (map step_of rest))
+  demanded_cut cut =
+      let P : List Code → List Row → Type 0 = λ p rs. IsDemanded (TrailRefuses RowRefuses (map step_of p) rs) (map step_of p) ↔ (IsDemandedBy RowRefuses above (step_of step) below × IsDemanded Part (map step_of rest)) in
+      subst (λ p. P p rows) (sym cut.path) (subst (λ rs. P (step ∷ rest) rs) (sym cut.rows) (demanded_further RowRefuses (step_of step) (map step_of rest) above below))
+
+  pub not_allowed_cut_last : AreCut → rest ≡ [] → IsNotAllowed Whole (map step_of path) ↔ IsRefusedBy RowRefuses above (step_of step)
+  not_allowed_cut_last cut none =
+      let P : List Code → List Row → Type 0 = λ p rs. IsNotAllowed (TrailRefuses RowRefuses (map step_of p) rs) (map step_of p) ↔ IsRefusedBy RowRefuses above (step_of step) in
+      subst (λ p. P p rows) (sym (cut.path ∙ ap (λ r. step ∷ r) none)) (subst (λ rs. P (step ∷ []) rs) (sym cut.rows) (not_allowed_last RowRefuses (step_of step) above below))
+
+  pub not_allowed_cut_more : AreCut → 0 < length rest → IsNotAllowed Whole (map step_of path) ↔ IsNotAllowed Part (map step_of rest)
+  not_allowed_cut_more cut some =
+      let P : List Code → List Row → Type 0 = λ p rs. IsNotAllowed (TrailRefuses RowRefuses (map step_of p) rs) (map step_of p) ↔ IsNotAllowed Part (map step_of rest) in
+      subst (λ p. P p rows) (sym cut.path) (subst (λ rs. P (step ∷ rest) rs) (sym cut.rows) (further_of rest some))
+    where
+      further_of : (more : List Code) → 0 < length more
+          → IsNotAllowed (TrailRefuses RowRefuses (step_of step ∷ map step_of more) (above ∷ below)) (step_of step ∷ map step_of more)
+          ↔ IsNotAllowed (TrailRefuses RowRefuses (map step_of more) below) (map step_of more)
+      further_of [] h = absurd (omega arith)
+      further_of (next ∷ more) h = not_allowed_further RowRefuses (step_of step) (step_of next) (map step_of more) above below
+
+cut_list : {X : Type 0} (xs : List X) (x : X) → 0 < length xs → x ≡ get_or xs 0 x → xs ≡ x ∷ take (length xs - 1) (drop 1 xs)
+cut_list [] x h e = absurd (omega arith)
+cut_list (y ∷ ys) x h e = ap (λ z. z ∷ ys) (sym e) ∙ ap (λ zs. x ∷ zs) (sym (take_rest (y ∷ ys) 1))
+
+pub are_cut : (path : List Code) (rows : List Row) (step : Code) (above : Row) → 0 < length path → step ≡ get_or path 0 step → 0 < length rows → above ≡ get_or rows 0 above
+    → AreCut path rows step above (take (length path - 1) (drop 1 path)) (take (length rows - 1) (drop 1 rows))
+are_cut path rows step above p a r b = record { path = cut_list path step p a; rows = cut_list rows above r b }

@@ -25,15 +25,15 @@ module _ {X : Type 0} where
           (λ h. let e2 = h.2 in let e3 : k ∷ kept ≡ b ∷ (before ++ y ∷ h.0) = cc in inr (h.0, h.1, e3))
           (split_last kept before after x y rest)
 
-  one_front : (P : X → Type 0) (xs ys : List X) → OneOf P xs → OneOf P (xs ++ ys)
+  pub one_front : (P : X → Type 0) (xs ys : List X) → OneOf P xs → OneOf P (xs ++ ys)
   one_front P [] ys h = absurd h
   one_front P (x ∷ xs) ys h = ⊎_elim (λ p. inl p) (λ q. inr (one_front P xs ys q)) h
 
-  one_back : (P : X → Type 0) (xs ys : List X) → OneOf P ys → OneOf P (xs ++ ys)
+  pub one_back : (P : X → Type 0) (xs ys : List X) → OneOf P ys → OneOf P (xs ++ ys)
   one_back P [] ys h = h
   one_back P (x ∷ xs) ys h = inr (one_back P xs ys h)
 
-  one_split : (P : X → Type 0) (xs ys : List X) → OneOf P (xs ++ ys) → OneOf P xs ⊎ OneOf P ys
+  pub one_split : (P : X → Type 0) (xs ys : List X) → OneOf P (xs ++ ys) → OneOf P xs ⊎ OneOf P ys
   one_split P [] ys h = inr h
   one_split P (x ∷ xs) ys h = ⊎_elim (λ p. inl (inl p)) (λ q. ⊎_elim (λ a. inl (inr a)) (λ b. inr b) (one_split P xs ys q)) h
 

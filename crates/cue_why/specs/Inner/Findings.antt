@@ -1,10 +1,12 @@
 -- What has to be refused for a finding, as the code has it.
-use Rattle.std.specs.Prelude.{◌↔◌, ℕ, ◌<◌, IsTrue}
+use Rattle.std.specs.Prelude.{◌↔◌, ℕ, ◌<◌, [], IsTrue}
 use Rattle.cue_lattice.specs.Path.{Path}
 use Rattle.cue_lattice.specs.Question.{Refusals, level_at_most}
 use Rattle.cue_report.specs.Answers.{IsDemanded, HasNoValue, IsNotAllowed}
 use Rattle.cue_report.specs.Gaps.{IsMissing}
 use Rattle.cue_row.specs.Levels.{level_of}
+use Rattle.cue_row.specs.Row.{RowRefuses}
+use Rattle.cue_row.specs.declared.parts.RowParts.{RowParts as Row}
 use Rattle.cue_why.specs.Finding.{RefusesValues, HasNoDefault, IsClear}
 use Rattle.cue_why.specs.declared.finding.Finding.{Finding}
 
@@ -25,3 +27,13 @@ pub record Meets (finding : Finding) (own : Refusals) (path : Path) : Type 0 whe
   pub not_allowed : IsTrue finding.not_allowed → IsNotAllowed own path
   pub levels : (k : ℕ) → k < level_of finding.level → own path (level_at_most k)
   pub no_default : IsTrue finding.no_default → HasNoDefault own path
+
+-- what a row refuses, at whatever path
+abbrev pub at_row : Row → Refusals
+at_row row path question = RowRefuses row question
+
+-- a row refuses at its place what has to be refused there
+pub record IsMetAt (finding : Finding) (row : Row) : Type 0 where
+  pub no_value : IsTrue finding.no_value → RefusesValues (at_row row) []
+  pub levels : (k : ℕ) → k < level_of finding.level → k < level_of row.level
+  pub no_default : IsTrue finding.no_default → HasNoDefault (at_row row) []

@@ -1,5 +1,6 @@
 -- What is refused along one path, as the code has it: a row for the root, and one behind each step.
 use Rattle.std.specs.Prelude.{◌≡◌, ◌↔◌, ◌⊎◌, suc, List, [], ◌∷◌, ◌++◌, length}
+use Rattle.std.specs.List.{AllByRecursion}
 use Rattle.cue_lattice.specs.Path.{Step, label, index, Path}
 use Rattle.cue_lattice.specs.Question.{Question, Refusals, allows, level_at_most, length_at_most}
 
@@ -37,3 +38,8 @@ module _ {R : Type 0} (refuses : R → Question → Type 0) where
   abbrev pub IsRefusedBy : R → Step → Type 0
   IsRefusedBy above (label l) = refuses above (allows l)
   IsRefusedBy above (index n) = ⊥
+
+  -- one row more than there are steps, none of which refuses anything
+  pub record AreFree {X : Type 0} (steps : List X) (rows : List R) : Type 0 where
+    pub long : length rows ≡ suc (length steps)
+    pub free : AllByRecursion (λ row. (question : Question) → ¬ refuses row question) rows

@@ -1,0 +1,93 @@
+-- Stacks of sources: one more, and the one on top.
+use Rattle.std.proofs.Common.{◌≡◌, ◌↔◌, ◌⊎◌, inl, inr, ⊎_elim, ℕ, List, [], ◌∷◌, ◌++◌, refl, sym, append-nil}
+use Rattle.cue_lattice.specs.OneOf.{OneOf}
+use Rattle.cue_lattice.specs.Path.{Path}
+use Rattle.cue_lattice.specs.Question.{Question, level_at_most, usual}
+use Rattle.cue_row.specs.Row.{RowRefuses}
+use Rattle.cue_row.specs.declared.parts.RowParts.{RowParts as Row}
+use Rattle.cue_policies.specs.View.{PartRefuses}
+use Rattle.cue_why.specs.Least.{IsLeft}
+use Rattle.cue_why.specs.Sources.{source_part}
+use Rattle.cue_why.specs.Inner.Findings.{Meets}
+use Rattle.cue_why.specs.Inner.Stacks.{LineRefuses, IsTrailOf, ahead_of, IsStack, Suffice}
+use Rattle.cue_why.specs.Inner.Trails.{TrailRefuses, AreMet, IsTrail}
+use Rattle.cue_why.specs.declared.finding.Finding.{Finding}
+use Rattle.cue_why.specs.declared.least.Traced.{Traced}
+use Rattle.cue_why.specs.declared.source.Source.{Source}
+use Rattle.cue_why.proofs.Makes.{IsAsNarrowAlong, demanded_more, values_more, not_allowed_more}
+use Rattle.cue_why.proofs.Pass.{one_front, one_back, one_split}
+use Rattle.cue_why.proofs.Trails.{trails_met, trail_as}
+
+pub ahead_push : (behind : List Source) (stack : List Traced) (one : Traced) → ahead_of behind (stack ++ one ∷ []) ≡ one.source ∷ ahead_of behind stack
+ahead_push behind [] one = refl
+ahead_push behind (t ∷ stack) one = ahead_push (t.source ∷ behind) stack one
+
+-- what is at the end of a stack
+pub record IsTop (path : Path) (behind : List Source) (stack : List Traced) (one : Traced) : Type 0 where
+  pub below : IsStack path behind stack
+  pub rest : IsTrailOf path (ahead_of behind stack) one.behind.items
+  pub own : IsTrailOf path (one.source ∷ []) one.trail.items
+
+pub stack_push : (path : Path) (behind : List Source) (stack : List Traced) (one : Traced) → IsTop path behind stack one → IsStack path behind (stack ++ one ∷ [])
+stack_push path behind [] one top = (top.rest, top.own, tt)
+stack_push path behind (t ∷ stack) one top =
+    let is : IsStack path behind (t ∷ stack) = top.below in
+    (is.0, is.1, stack_push path (t.source ∷ behind) stack one (record { below = is.2; rest = top.rest; own = top.own }))
+
+pub stack_pop : (path : Path) (behind : List Source) (stack : List Traced) (one : Traced) → IsStack path behind (stack ++ one ∷ []) → IsTop path behind stack one
+stack_pop path behind [] one is = record { below = tt; rest = is.0; own = is.1 }
+stack_pop path behind (t ∷ stack) one is =
+    let top = stack_pop path (t.source ∷ behind) stack one is.2 in
+    record { below = (is.0, is.1, top.below); rest = top.rest; own = top.own }
+
+-- the trail of one source with those behind it
+pub one_more : (path : Path) (source : Source) (behind : List Source) (trail rest rows : List Row) → IsTrailOf path (source ∷ []) trail → IsTrailOf path behind rest → AreMet RowRefuses trail rest rows
+    → IsTrailOf path (source ∷ behind) rows
+one_more path source behind trail rest rows a b m =
+    trail_as RowRefuses (λ place question. LineRefuses (source ∷ []) place question ⊎ LineRefuses behind place question) (LineRefuses (source ∷ behind)) path rows
+        (λ place question. (
+          λ h. ⊎_elim (λ p. ⊎_elim (λ x. inl x) (λ e. absurd e) p) (λ q. inr q) h,
+          λ h. ⊎_elim (λ p. inl (inl p)) (λ q. inr q) h,
+        ))
+        (trails_met RowRefuses (LineRefuses (source ∷ [])) (LineRefuses behind) path trail rest rows a b m)
+
+-- the trail of two lists of sources
+pub both_trails : (path : Path) (some others : List Source) (one other rows : List Row) → IsTrailOf path some one → IsTrailOf path others other → AreMet RowRefuses one other rows
+    → IsTrailOf path (some ++ others) rows
+both_trails path some others one other rows a b m =
+    trail_as RowRefuses (λ place question. LineRefuses some place question ⊎ LineRefuses others place question) (LineRefuses (some ++ others)) path rows
+        (λ place question. (
+          λ h. ⊎_elim (λ p. one_front (λ s. PartRefuses (source_part s) place question) some others p) (λ q. one_back (λ s. PartRefuses (source_part s) place question) some others q) h,
+          λ h. one_split (λ s. PartRefuses (source_part s) place question) some others h,
+        ))
+        (trails_met RowRefuses (LineRefuses some) (LineRefuses others) path one other rows a b m)
+
+-- what is met along a path by the one is met by what refuses as much
+pub meets_more : (finding : Finding) (a b : Path → Question → Type 0) (path : Path) → IsAsNarrowAlong a b path → ((question : Question) → b path question → a path question)
+    → Meets finding b path → Meets finding a path
+meets_more finding a b path more here h = record {
+  demanded = demanded_more a b path more h.demanded;
+  no_value = λ t. values_more a b path here (h.no_value t);
+  not_allowed = λ t. not_allowed_more a b path more (h.not_allowed t);
+  levels = λ k less. here (level_at_most k) (h.levels k less);
+  no_default = λ t scalar is. here (usual scalar) (h.no_default t scalar is);
+}
+
+-- rows meet a finding where their sources do
+pub suffices_is : (finding : Finding) (path : Path) (sources : List Source) (rows : List Row) → IsTrailOf path sources rows
+    → Meets finding (TrailRefuses RowRefuses path rows) path ↔ Suffice finding path sources
+suffices_is finding path sources rows trail =
+    let whole : path ≡ path ++ [] = sym (append-nil path) in (
+      λ h. meets_more finding (LineRefuses sources) (TrailRefuses RowRefuses path rows) path (record { at = λ place after e question r. (trail.same place after e question).0 r })
+          (λ question r. (trail.same path [] whole question).0 r) h,
+      λ h. meets_more finding (TrailRefuses RowRefuses path rows) (LineRefuses sources) path (record { at = λ place after e question r. (trail.same place after e question).1 r })
+          (λ question r. (trail.same path [] whole question).1 r) h,
+    )
+
+-- a pass by one condition is one by an equal one
+pub left_as : {X : Type 0} (P Q : List X → Type 0) → ((xs : List X) → P xs ↔ Q xs) → (kept ahead left : List X) → IsLeft P kept ahead left → IsLeft Q kept ahead left
+left_as P Q same kept [] left h = h
+left_as P Q same kept (x ∷ ahead) left h = ⊎_elim
+    (λ out. inl ((same (kept ++ ahead)).0 out.0, left_as P Q same kept ahead left out.1))
+    (λ stays. inr ((λ q. stays.0 ((same (kept ++ ahead)).1 q)), left_as P Q same (kept ++ x ∷ []) ahead left stays.1))
+    h
