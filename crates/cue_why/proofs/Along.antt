@@ -6,7 +6,7 @@ use Rattle.cue_policies.specs.View.{IsAlong, IsPatternStep, EndsInPattern}
 use Rattle.cue_policies.specs.declared.kind.LayerKind.{LayerKind}
 use Rattle.cue_why.specs.Inner.Parts.{IsStepAlong}
 
-along_nil : (kind : LayerKind) (written : Path) → IsAlong kind written [] → written ≡ []
+pub along_nil : (kind : LayerKind) (written : Path) → IsAlong kind written [] → written ≡ []
 along_nil kind [] h = refl
 along_nil kind (label own ∷ written) h = absurd h
 along_nil kind (index n ∷ written) h = absurd h

@@ -91,23 +91,23 @@ module _ (path : List Code) (rows : List Row) (step : Code) (above : Row) (rest 
 
   -- both lists are cut behind their first elements
   pub record AreCut : Type 0 where
-    pub path : path ≡ step ∷ rest
-    pub rows : rows ≡ above ∷ below
+    pub steps : path ≡ step ∷ rest
+    pub trail : rows ≡ above ∷ below
 
   pub demanded_cut : AreCut → IsDemanded Whole (map step_of path) ↔ (IsDemandedBy RowRefuses above (step_of step) below × IsDemanded Part (map step_of rest))
   demanded_cut cut =
       let P : List Code → List Row → Type 0 = λ p rs. IsDemanded (TrailRefuses RowRefuses (map step_of p) rs) (map step_of p) ↔ (IsDemandedBy RowRefuses above (step_of step) below × IsDemanded Part (map step_of rest)) in
-      subst (λ p. P p rows) (sym cut.path) (subst (λ rs. P (step ∷ rest) rs) (sym cut.rows) (demanded_further RowRefuses (step_of step) (map step_of rest) above below))
+      subst (λ p. P p rows) (sym cut.steps) (subst (λ rs. P (step ∷ rest) rs) (sym cut.trail) (demanded_further RowRefuses (step_of step) (map step_of rest) above below))
 
   pub not_allowed_cut_last : AreCut → rest ≡ [] → IsNotAllowed Whole (map step_of path) ↔ IsRefusedBy RowRefuses above (step_of step)
   not_allowed_cut_last cut none =
       let P : List Code → List Row → Type 0 = λ p rs. IsNotAllowed (TrailRefuses RowRefuses (map step_of p) rs) (map step_of p) ↔ IsRefusedBy RowRefuses above (step_of step) in
-      subst (λ p. P p rows) (sym (cut.path ∙ ap (λ r. step ∷ r) none)) (subst (λ rs. P (step ∷ []) rs) (sym cut.rows) (not_allowed_last RowRefuses (step_of step) above below))
+      subst (λ p. P p rows) (sym (cut.steps ∙ ap (λ r. step ∷ r) none)) (subst (λ rs. P (step ∷ []) rs) (sym cut.trail) (not_allowed_last RowRefuses (step_of step) above below))
 
   pub not_allowed_cut_more : AreCut → 0 < length rest → IsNotAllowed Whole (map step_of path) ↔ IsNotAllowed Part (map step_of rest)
   not_allowed_cut_more cut some =
       let P : List Code → List Row → Type 0 = λ p rs. IsNotAllowed (TrailRefuses RowRefuses (map step_of p) rs) (map step_of p) ↔ IsNotAllowed Part (map step_of rest) in
-      subst (λ p. P p rows) (sym cut.path) (subst (λ rs. P (step ∷ rest) rs) (sym cut.rows) (further_of rest some))
+      subst (λ p. P p rows) (sym cut.steps) (subst (λ rs. P (step ∷ rest) rs) (sym cut.trail) (further_of rest some))
     where
       further_of : (more : List Code) → 0 < length more
           → IsNotAllowed (TrailRefuses RowRefuses (step_of step ∷ map step_of more) (above ∷ below)) (step_of step ∷ map step_of more)
@@ -121,4 +121,4 @@ cut_list (y ∷ ys) x h e = ap (λ z. z ∷ ys) (sym e) ∙ ap (λ zs. x ∷ zs)
 
 pub are_cut : (path : List Code) (rows : List Row) (step : Code) (above : Row) → 0 < length path → step ≡ get_or path 0 step → 0 < length rows → above ≡ get_or rows 0 above
     → AreCut path rows step above (take (length path - 1) (drop 1 path)) (take (length rows - 1) (drop 1 rows))
-are_cut path rows step above p a r b = record { path = cut_list path step p a; rows = cut_list rows above r b }
+are_cut path rows step above p a r b = record { steps = cut_list path step p a; trail = cut_list rows above r b }

@@ -27,9 +27,9 @@ pub(crate) fn trace_all<'a>(
     path: &[Step],
 ) -> Result<(Vec<Traced<'a>>, Vec<Row>), Memory>
     ensures stack { IfOk result (λ all. IsStack (map step_of path.now) [] all.0.items) }
-    ensures sources { IfOk result (λ all. ahead_of [] all.0.items ≡ sources.items) }
+    ensures sources { IfOk result (λ all. ahead_of [] all.0.items ≡ sources.entry.items) }
     ensures trail { IfOk result (λ all.
-        IsTrailOf (map step_of path.now) sources.items all.1.items) }
+        IsTrailOf (map step_of path.now) sources.entry.items all.1.items) }
 {
     let mut left = sources;
     let mut stack = Vec::with_capacity(alloc, left.len())?;
@@ -64,7 +64,7 @@ pub(crate) fn least<'a>(
 ) -> Result<Vec<Source<'a>>, Memory>
     requires { IsStack (map step_of path.now) [] stack.items }
     ensures { IfOk result (λ kept. IsLeft (Suffice finding (map step_of path.now)) []
-        (ahead_of [] stack.items) kept.items) }
+        (ahead_of [] stack.entry.items) kept.items) }
 {
     let mut left = stack;
     let mut kept = Vec::new(alloc);

@@ -1,11 +1,11 @@
-//! What sources refuse at each place along a path.
+//! What one source refuses at each place along a path.
 ghost use Rattle.std.specs.Prelude.{◌≡◌, ◌↔◌, ◌∷◌, [], map, IfOk, OnOk};
 ghost use Rattle.cue_lattice.specs.OneOf.{OneOf};
 ghost use Rattle.cue_lattice.specs.Question.{Question};
 ghost use Rattle.cue_row.specs.Row.{RowRefuses};
 ghost use Rattle.cue_row.specs.Steps.{step_of};
-ghost use Rattle.cue_why.specs.Inner.Parts.{AreParts, GainsPart, Holds};
-ghost use Rattle.cue_why.specs.Inner.Trails.{AreMet, IsFreeTrail, IsTrailOf};
+ghost use Rattle.cue_why.specs.Inner.Parts.{AreParts, GainsPart, Holds, IsHeldRow};
+ghost use Rattle.cue_why.specs.Inner.Stacks.{IsTrailOf};
 
 use crate::below::parts_below;
 use crate::part::{WrittenPart, ends_in_pattern};
@@ -52,7 +52,7 @@ fn row_of(alloc: Global, kind: LayerKind, parts: &[WrittenPart]) -> Result<Row, 
     ensures { IfOk result (λ row. (question : Question) → RowRefuses row question
         ↔ OneOf (λ part. Holds kind part question) parts.now) }
 {
-    let mut row = Row::of_anything(Level::Optional);
+    let mut row = Row::free(alloc)?;
     for part in parts {
         add_row(alloc, &mut row, kind, part)?;
     }
@@ -70,45 +70,21 @@ fn add_row(
 {
     match part.branch.row() {
         None => Ok(()),
-        Some(own) => row.narrow(alloc, held(alloc, kind, part, own)?),
+        Some(own) => {
+            let held = held_row(alloc, kind, part.written.steps(), own)?;
+            row.narrow(alloc, held)
+        }
     }
 }
 
-/// The row of a part as it counts in the view: where the path ends in a pattern, of no level.
-pub(crate) fn held(
-    alloc: Global,
-    kind: LayerKind,
-    part: &WrittenPart,
-    row: &Row,
-) -> Result<Row, Memory>
-    ensures { IfOk result (λ held. held ≡ held_row kind part.now.written row.now) }
+/// A row at a path as it counts in the view: where the path ends in a pattern, of no level.
+fn held_row(alloc: Global, kind: LayerKind, path: &[Step], row: &Row) -> Result<Row, Memory>
+    ensures { IfOk result (λ held. IsHeldRow kind (map step_of path.now) row.now held) }
 {
     let row = row.copy(alloc)?;
-    if ends_in_pattern(kind, part.written.steps()) {
+    if ends_in_pattern(kind, path) {
         Ok(row.at_level(Level::Optional))
     } else {
         Ok(row)
-    }
-}
-
-/// The trail of no source along a path.
-pub(crate) fn free_trail(alloc: Global, path: &[Step]) -> Result<Vec<Row>, Memory>
-    ensures { IfOk result (λ rows. IsTrailOf (map step_of path.now) [] rows.items) }
-{
-    let mut rows = Vec::new(alloc);
-    rows.push(Row::of_anything(Level::Optional))?;
-    for _step in path {
-        rows.push(Row::of_anything(Level::Optional))?;
-    }
-    Ok(rows)
-}
-
-/// What two trails along one path refuse together.
-pub(crate) fn met(alloc: Global, one: &[Row], other: &[Row]) -> Result<Vec<Row>, Memory>
-    ensures { IfOk result (λ rows. AreMet one.now other.now rows.items) }
-{
-    match one {
-        [] => Ok(Vec::new(alloc)),
-        _ => Err(Memory::beyond(0, 0)),
     }
 }
