@@ -1,9 +1,12 @@
 -- Paths as they are written, and what they concern, one step further.
-use Rattle.std.proofs.Common.{◌≡◌, ℕ, List, [], ◌∷◌, ◌++◌, refl, ap}
+use Rattle.std.proofs.Common.{◌≡◌, ◌↔◌, ℕ, List, [], ◌∷◌, ◌++◌, map, refl, sym, ap, subst, ◌∙◌}
 use Rattle.cue_lattice.specs.Path.{Step, label, index, Path}
-use Rattle.cue_policies.specs.Patterns.{Concerns}
+use Rattle.cue_policies.specs.Patterns.{IsPatternOf}
 use Rattle.cue_policies.specs.View.{IsAlong, IsPatternStep, EndsInPattern}
 use Rattle.cue_policies.specs.declared.kind.LayerKind.{LayerKind}
+use Rattle.cue_row.specs.Steps.{step_of}
+use Rattle.cue_row.specs.declared.step.Step.{Step as Code}
+use Rattle.cue_row.specs.declared.step.Step.TheVariants.{Label, Index}
 use Rattle.cue_why.specs.Inner.Parts.{IsStepAlong}
 
 pub along_nil : (kind : LayerKind) (written : Path) → IsAlong kind written [] → written ≡ []
@@ -59,3 +62,25 @@ pub ends_out : (kind : LayerKind) (front : Path) (own : Step) → EndsInPattern 
 ends_out kind [] own h = h
 ends_out kind (a ∷ []) own h = h
 ends_out kind (a ∷ (b ∷ front)) own h = ends_out kind (b ∷ front) own h
+
+-- ---- as the code has steps
+map_snoc : (front : List Code) (step : Code) → map step_of (front ++ step ∷ []) ≡ map step_of front ++ step_of step ∷ []
+map_snoc [] step = refl
+map_snoc (x ∷ front) step = ap (λ p. step_of x ∷ p) (map_snoc front step)
+
+ends_last : (kind : LayerKind) (path front : List Code) (step : Code) → path ≡ front ++ step ∷ [] → EndsInPattern kind (map step_of path) ↔ IsPatternStep kind (step_of step)
+ends_last kind path front step e =
+    let whole : map step_of path ≡ map step_of front ++ step_of step ∷ [] = ap (map step_of) e ∙ map_snoc front step in
+    subst (λ p. EndsInPattern kind p ↔ IsPatternStep kind (step_of step)) (sym whole) (ends_out kind (map step_of front) (step_of step), ends_in kind (map step_of front) (step_of step))
+
+pub ends_label : (kind : LayerKind) (path front : List Code) (step : Code) (l t : List ℕ) → path ≡ front ++ step ∷ [] → step ≡ Label l → t ≡ l
+    → EndsInPattern kind (map step_of path) ↔ IsPatternOf kind t
+ends_label kind path front step l t e is same =
+    let last = ends_last kind path front step e in
+    let P : Step → Type 0 = λ s. EndsInPattern kind (map step_of path) ↔ IsPatternStep kind s in
+    subst (λ m. EndsInPattern kind (map step_of path) ↔ IsPatternOf kind m) (sym same) (subst P (ap step_of is) last)
+
+pub ends_index : (kind : LayerKind) (path front : List Code) (step : Code) (n : ℕ) → path ≡ front ++ step ∷ [] → step ≡ Index n → ¬ EndsInPattern kind (map step_of path)
+ends_index kind path front step n e is h =
+    let P : Step → Type 0 = λ s. IsPatternStep kind s in
+    subst P (ap step_of is) ((ends_last kind path front step e).0 h)

@@ -68,3 +68,15 @@ free_trail steps path rows e free = record { long = free.long ∙ ap suc e; same
     none path [] (row ∷ rows) question all h = all.0 question h
     none [] (s ∷ place) (row ∷ rows) question all h = h
     none (first ∷ path) (s ∷ place) (row ∷ rows) question all h = none path place rows question all.1 h.1
+
+pub free_one : (rows new : List Row) (row : Row) → rows ≡ [] → new ≡ rows ++ row ∷ [] → ((question : program.Question) → ¬ Refuses row question) → (length new ≡ 1) × AllFree new
+free_one rows new row e items free =
+    let one : new ≡ row ∷ [] = items ∙ ap (λ xs. xs ++ row ∷ []) e in
+    (ap length one, subst AllFree (sym one) (free_asked row free, tt))
+
+pub free_more : (rows new : List Row) (row : Row) (n : ℕ) → new ≡ rows ++ row ∷ [] → ((question : program.Question) → ¬ Refuses row question) → length rows ≡ n → AllFree rows → (length new ≡ n + 1) × AllFree new
+free_more rows new row n items free long all = (ap length items ∙ (let e = snoc_length rows in omega arith), free_push rows new row items free all)
+  where
+    snoc_length : (xs : List Row) → length (xs ++ row ∷ []) ≡ suc (length xs)
+    snoc_length [] = refl
+    snoc_length (x ∷ xs) = ap suc (snoc_length xs)

@@ -16,11 +16,13 @@ use Rattle.cue_row.specs.Made.{at_level}
 use Rattle.cue_row.specs.Row as rows
 use Rattle.cue_row.specs.declared.level.Level.TheVariants.{Optional}
 use Rattle.cue_row.specs.declared.parts.RowParts.{RowParts as Row}
+use Rattle.cue_row.specs.declared.question.Question as program
 use Rattle.cue_table.specs.Refuses.{RowRefuses, TableRefuses}
 use Rattle.cue_table.specs.Tree.{Tree, branch_at, row_of, row_at, step_into, labels_of, below}
 use Rattle.cue_why.specs.Inner.Parts.{IsStepAlong, IsIn, AreParts, IsOwnBelow, IsBelow, Holds, IsHeldRow, GainsPart}
 use Rattle.cue_why.specs.declared.part.WrittenPart.{WrittenPart}
 use Rattle.cue_why.proofs.Along.{along_nil, along_in, along_out}
+use Rattle.cue_why.proofs.Mets.{met_asked}
 
 same_part : (written : Path) (branch : Tree Row) (next : WrittenPart) → written ≡ next.written → branch ≡ next.branch → record { written = written; branch = branch } ≡ next
 same_part written branch next e f = λ i. record { written = e i; branch = f i }
@@ -82,7 +84,7 @@ parts_step kind root place step parts found are is next = (into, out)
         let there = found_first (branch_at root split.0) split.1 next.branch (sym (branch_snoc root split.0 split.1) ∙ sym (ap (branch_at root) split.2) ∙ h.1) in
         let part : WrittenPart = record { written = split.0; branch = there.0 } in
         let in_parts = (are part).1 (split.3, there.1) in
-        (is next).1 (put (λ part. IsBelow kind step part next) parts part in_parts (split.1, split.4, split.2, there.2))
+        (is next).1 (put (λ part. IsBelow kind step part next) parts part in_parts (split.1, split.4, (split.2, there.2)))
 
 -- ---- one part, at one step
 pub below_index : (kind : LayerKind) (n : ℕ) (part next : WrittenPart) → IsBelow kind (index n) part next ↔ IsOwnBelow (index n) part next
@@ -186,3 +188,20 @@ labels_start l part next rest old e =
       λ h. ⊎_elim (λ o. inl o) (λ r. inr (all.0 (subst (OneOf (IsLabelBelow l part next)) e r))) h,
       λ h. ⊎_elim (λ o. inl o) (λ b. inr (subst (OneOf (IsLabelBelow l part next)) (sym e) (all.1 b))) h,
     )
+
+-- ---- rows of parts
+pub gains_row : (kind : LayerKind) (old : Row) (part : WrittenPart) (new own held : Row) → row_of part.branch ≡ Some own → IsHeldRow kind part.written own held
+    → ((question : program.Question) → rows.Refuses new question ↔ (rows.Refuses old question ⊎ rows.Refuses held question)) → GainsPart kind old part new
+gains_row kind old part new own held e is met question =
+    let both = met_asked old held new met question in
+    let counts = held_refuses kind part.written own held question is in
+    let P : Option Row → Type 0 = λ r. RowRefuses rows.RowRefuses r question × ¬ (EndsInPattern kind part.written × IsLevel question) in (
+      λ h. ⊎_elim (λ o. inl o) (λ g. inr (subst P (sym e) (counts.0 g))) (both.0 h),
+      λ h. both.1 (⊎_elim (λ o. inl o) (λ g. inr (counts.1 (subst P e g))) h),
+    )
+
+pub gains_none : (kind : LayerKind) (old : Row) (part : WrittenPart) → row_of part.branch ≡ None → GainsPart kind old part old
+gains_none kind old part e question = (
+  λ h. inl h,
+  λ h. ⊎_elim (λ o. o) (λ g. absurd (subst (λ r. RowRefuses rows.RowRefuses r question) e g.0)) h,
+)

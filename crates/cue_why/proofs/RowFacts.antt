@@ -1,5 +1,5 @@
 -- What a row refuses at its place, by what the code asks of it.
-use Rattle.std.proofs.Common.{◌≡◌, ◌↔◌, ◌⊎◌, inl, inr, ⊎_elim, ℕ, ◌<◌, ◌≤◌, Bool, true, false, List, [], nat_lt, Option, None, Some, refl, sym, ◌∙◌, subst, arith}
+use Rattle.std.proofs.Common.{◌≡◌, ◌↔◌, ◌⊎◌, inl, inr, ⊎_elim, ℕ, suc, ◌<◌, ◌≤◌, Bool, true, false, List, [], ◌∷◌, ◌++◌, length, map, nat_lt, Option, None, Some, refl, sym, ap, ◌∙◌, subst, arith}
 use Rattle.std.specs.Prelude.{IsTrue}
 use Rattle.std.proofs.lemmas.Bool.{false≢true}
 use Rattle.std.proofs.lemmas.Bool.Decides.{nat_tests}
@@ -17,7 +17,9 @@ use Rattle.cue_report.specs.Inner.Search.{is_above, is_empty_set}
 use Rattle.cue_report.proofs.Empty.{refused_empty, empty_refused, empty_members, refused}
 use Rattle.cue_why.specs.Finding.{RefusesValues, HasNoDefault}
 use Rattle.cue_why.specs.Inner.Findings.{IsMetAt, Meets, at_row}
+use Rattle.cue_why.specs.Inner.Trails.{TrailRefuses}
 use Rattle.cue_why.specs.declared.finding.Finding.{Finding}
+use Rattle.cue_why.proofs.Demands.{end_is}
 
 -- what is refused at one path is refused by another set at another
 pub values_as : (a b : Refusals) (p q : Path) → ((question : Question) → b q question → a p question) → RefusesValues b q → RefusesValues a p
@@ -78,3 +80,20 @@ levels_low f r h k less = omega arith
 
 pub levels_high : (f r : ℕ) → ((k : ℕ) → k < f → k < r) → (r < f → ⊥)
 levels_high f r h less = let k : r < r = h r less in omega arith
+
+-- the last of rows along a path, by what the code cuts off
+pub end_row : (path : Path) (rows front : List Row) (row : Row) → rows ≡ front ++ row ∷ [] → length rows ≡ suc (length path)
+    → (question : Question) → TrailRefuses RowRefuses path rows path question ↔ RowRefuses row question
+end_row path rows front row e long question =
+    let P : List Row → Type 0 = λ rs. TrailRefuses RowRefuses path rs path question ↔ RowRefuses row question in
+    subst P (sym e) (end_is RowRefuses path front row question (snoc_long front long_front))
+  where
+    long_front : length (front ++ row ∷ []) ≡ suc (length path)
+    long_front = ap length (sym e) ∙ long
+
+    snoc_long : (xs : List Row) → length (xs ++ row ∷ []) ≡ suc (length path) → length xs ≡ length path
+    snoc_long xs h = let one : length (xs ++ row ∷ []) ≡ suc (length xs) = snoc_length xs in omega arith
+      where
+        snoc_length : (ys : List Row) → length (ys ++ row ∷ []) ≡ suc (length ys)
+        snoc_length [] = refl
+        snoc_length (y ∷ ys) = ap suc (snoc_length ys)

@@ -1,5 +1,5 @@
 -- Stacks of sources: one more, and the one on top.
-use Rattle.std.proofs.Common.{◌≡◌, ◌↔◌, ◌⊎◌, inl, inr, ⊎_elim, ℕ, List, [], ◌∷◌, ◌++◌, refl, sym, append-nil}
+use Rattle.std.proofs.Common.{◌≡◌, ◌↔◌, ◌⊎◌, inl, inr, ⊎_elim, ℕ, List, [], ◌∷◌, ◌++◌, length, refl, sym, ap, subst, ◌∙◌, append_assoc, append-nil}
 use Rattle.cue_lattice.specs.OneOf.{OneOf}
 use Rattle.cue_lattice.specs.Path.{Path}
 use Rattle.cue_lattice.specs.Question.{Question, level_at_most, usual}
@@ -91,3 +91,75 @@ left_as P Q same kept (x ∷ ahead) left h = ⊎_elim
     (λ out. inl ((same (kept ++ ahead)).0 out.0, left_as P Q same kept ahead left out.1))
     (λ stays. inr ((λ q. stays.0 ((same (kept ++ ahead)).1 q)), left_as P Q same (kept ++ x ∷ []) ahead left stays.1))
     h
+
+-- ---- the loops over stacks
+pub record AreTraced (path : Path) (all left : List Source) (stack : List Traced) (behind : List Row) : Type 0 where
+  pub whole : all ≡ left ++ ahead_of [] stack
+  pub stack : IsStack path [] stack
+  pub trail : IsTrailOf path (ahead_of [] stack) behind
+
+pub traced_more :
+    (path : Path) (all left next : List Source) (x : Source) (stack more : List Traced) (one : Traced) (behind rows : List Row) → AreTraced path all left stack behind
+    → left ≡ next ++ x ∷ [] → one.source ≡ x → one.behind.items ≡ behind → IsTrailOf path (x ∷ []) one.trail.items → AreMet RowRefuses one.trail.items behind rows → more ≡ stack ++ one ∷ []
+    → AreTraced path all next more rows
+traced_more path all left next x stack more one behind rows are e is rest trail met items =
+    let ahead : ahead_of [] more ≡ x ∷ ahead_of [] stack = ap (ahead_of []) items ∙ ahead_push [] stack one ∙ ap (λ s. s ∷ ahead_of [] stack) is in
+    record {
+      whole = are.whole ∙ ap (λ xs. xs ++ ahead_of [] stack) e ∙ append_assoc next (x ∷ []) (ahead_of [] stack) ∙ ap (λ xs. next ++ xs) (sym ahead);
+      stack = subst (IsStack path []) (sym items)
+          (stack_push path [] stack one
+          (record { below = are.stack; rest = subst (IsTrailOf path (ahead_of [] stack)) (sym rest) are.trail; own = subst (λ s. IsTrailOf path (s ∷ []) one.trail.items) (sym is) trail }));
+      trail = subst (λ xs. IsTrailOf path xs rows) (sym ahead) (one_more path x (ahead_of [] stack) one.trail.items behind rows trail are.trail met);
+    }
+
+-- what is left of a pass goes on as that of the whole
+pub record GoesOn (finding : Finding) (path : Path) (all kept : List Source) (stack : List Traced) (own : List Row) : Type 0 where
+  pub stack : IsStack path [] stack
+  pub own : IsTrailOf path kept own
+  pub goes : (left : List Source) → IsLeft (Suffice finding path) kept (ahead_of [] stack) left → IsLeft (Suffice finding path) [] all left
+
+ahead_pop : (stack next : List Traced) (one : Traced) → stack ≡ next ++ one ∷ [] → ahead_of [] stack ≡ one.source ∷ ahead_of [] next
+ahead_pop stack next one e = ap (ahead_of []) e ∙ ahead_push [] next one
+
+-- one is left out
+pub goes_without :
+    (finding : Finding) (path : Path) (all kept : List Source) (stack next : List Traced) (one : Traced) (own others : List Row) → GoesOn finding path all kept stack own → stack ≡ next ++ one ∷ []
+    → AreMet RowRefuses own one.behind.items others → Meets finding (TrailRefuses RowRefuses path others) path → GoesOn finding path all kept next own
+goes_without finding path all kept stack next one own others on e met makes =
+    let top = stack_pop path [] next one (subst (IsStack path []) e on.stack) in
+    let suffices = (suffices_is finding path (kept ++ ahead_of [] next) others (both_trails path kept (ahead_of [] next) own one.behind.items others on.own top.rest met)).0 makes in
+    record {
+      stack = top.below;
+      own = on.own;
+      goes = λ left h. on.goes left (subst (λ xs. IsLeft (Suffice finding path) kept xs left) (sym (ahead_pop stack next one e)) (inl (suffices, h)));
+    }
+
+-- or kept
+pub goes_with :
+    (finding : Finding) (path : Path) (all kept more : List Source) (stack next : List Traced) (one : Traced) (own others rows : List Row) → GoesOn finding path all kept stack own → stack ≡ next ++ one ∷ []
+    → AreMet RowRefuses own one.behind.items others → ¬ Meets finding (TrailRefuses RowRefuses path others) path → AreMet RowRefuses own one.trail.items rows → more ≡ kept ++ one.source ∷ []
+    → GoesOn finding path all more next rows
+goes_with finding path all kept more stack next one own others rows on e met makes joined items =
+    let top = stack_pop path [] next one (subst (IsStack path []) e on.stack) in
+    let same = suffices_is finding path (kept ++ ahead_of [] next) others (both_trails path kept (ahead_of [] next) own one.behind.items others on.own top.rest met) in
+    record {
+      stack = top.below;
+      own = subst (λ xs. IsTrailOf path xs rows) (sym items) (both_trails path kept (one.source ∷ []) own one.trail.items rows on.own top.own joined);
+      goes = λ left h.
+          let rest = subst (λ xs. IsLeft (Suffice finding path) xs (ahead_of [] next) left) items h in
+          on.goes left (subst (λ xs. IsLeft (Suffice finding path) kept xs left) (sym (ahead_pop stack next one e)) (inr (λ s. makes (same.1 s), rest)));
+    }
+
+pub goes_start : (finding : Finding) (path : Path) (stack : List Traced) (kept : List Source) (own : List Row) → IsStack path [] stack → kept ≡ [] → IsTrailOf path [] own → GoesOn finding path (ahead_of [] stack) kept stack own
+goes_start finding path stack kept own is none trail = record {
+  stack = is;
+  own = subst (λ xs. IsTrailOf path xs own) (sym none) trail;
+  goes = λ left h. subst (λ xs. IsLeft (Suffice finding path) xs (ahead_of [] stack) left) none h;
+}
+
+pub goes_end : (finding : Finding) (path : Path) (all kept : List Source) (stack : List Traced) (own : List Row) → GoesOn finding path all kept stack own → stack ≡ [] → IsLeft (Suffice finding path) [] all kept
+goes_end finding path all kept stack own on e = on.goes kept (subst (λ s. IsLeft (Suffice finding path) kept (ahead_of [] s) kept) (sym e) refl)
+
+-- trails along one path are as long
+pub as_long : (path : Path) (some others : List Source) (one other : List Row) → IsTrailOf path some one → IsTrailOf path others other → length one ≡ length other
+as_long path some others one other a b = a.long ∙ sym b.long

@@ -1,15 +1,21 @@
 //! What has to be refused for what is reported at a path.
-ghost use Rattle.std.specs.Prelude.{◌≡◌, ◌↔◌, [], suc, length, map, IsTrue};
+ghost use Rattle.std.specs.Prelude.{◌≡◌, ◌↔◌, ◌⊎◌, [], false, suc, length, map, Some, IfNone, IfOk, IfSome, IsTrue};
+ghost use Rattle.cue_report.specs.Inner.GapSearch.{IsOpenAt};
+ghost use Rattle.cue_report.specs.Inner.Search as search;
 ghost use Rattle.cue_report.specs.Inner.Search.{is_above, is_empty_set};
 ghost use Rattle.cue_row.specs.Row.{IsRow, RowRefuses};
 ghost use Rattle.cue_row.specs.Steps.{step_of};
+ghost use Rattle.cue_row.specs.declared.level.Level.TheVariants as levels;
 ghost use Rattle.cue_why.specs.Finding.{HasNoDefault, RefusesValues};
-ghost use Rattle.cue_why.specs.Inner.Findings.{IsMetAt, Meets, at_row};
+ghost use Rattle.cue_why.specs.Inner.Findings.{IsFoundAt, IsGapOf, IsMetAt, IsNothingAt, IsReportedAs};
+ghost use Rattle.cue_why.specs.Inner.Findings.{Meets, at_row};
 ghost use Rattle.cue_why.specs.Inner.Trails.{TrailRefuses};
+ghost use Rattle.cue_why.specs.Reported.{IsReported};
 
 use crate::demand::{is_demanded, is_not_allowed};
-use cue_lattice::Narrow;
+use cue_lattice::{Memory, Narrow};
 use cue_row::{Level, Row, Scalars, Step};
+use std::alloc::Global;
 
 /// What has to be refused at a demanded path, so that the report says there what it says.
 #[derive(Clone, Copy, Debug, PartialEq, Eq)]
@@ -25,6 +31,71 @@ pub(crate) struct Finding {
 }
 
 impl Finding {
+    /// What has to be refused for what is reported at a path, by the rows of a view along it;
+    /// nothing where nothing is reported.
+    pub fn at(alloc: Global, rows: &[Row], path: &[Step]) -> Result<Option<Finding>, Memory>
+        requires { length rows.now ≡ suc (length path.now) }
+        ensures some { let steps = map step_of path.now in IfOk result (λ found.
+            IfSome found (IsReportedAs (TrailRefuses RowRefuses steps rows.now) steps)) }
+        ensures none { let steps = map step_of path.now in IfOk result (λ found.
+            IfNone found (¬ IsReported (TrailRefuses RowRefuses steps rows.now) steps)) }
+    {
+        if !is_demanded(rows, path) {
+            return Ok(None);
+        }
+        match rows.split_last() {
+            None => Ok(None),
+            Some((row, _above)) => Finding::here(alloc, row, is_not_allowed(rows, path)),
+        }
+    }
+
+    /// What has to be refused for what is reported at a demanded place with this row, the label of
+    /// which is not allowed or is.
+    fn here(alloc: Global, row: &Row, not_allowed: bool) -> Result<Option<Finding>, Memory>
+        ensures some { IfOk result (λ found. IfSome found (IsFoundAt row.now not_allowed)) }
+        ensures none { IfOk result (λ found. IfNone found (IsNothingAt row.now not_allowed)) }
+    {
+        row.known();
+        let no_value = lacks_value(row);
+        if no_value || not_allowed {
+            return Ok(Some(Finding {
+                no_value,
+                not_allowed,
+                level: Level::Optional,
+                no_default: false,
+            }));
+        }
+        if !is_gap(alloc, row)? {
+            return Ok(None);
+        }
+        Ok(Some(Finding::of_gap(row)))
+    }
+
+    /// What has to be refused for a gap.
+    fn of_gap(row: &Row) -> Finding
+        requires { IsRow row.now }
+        ensures { IsGapOf row.now result }
+    {
+        let level = row.level();
+        let no_default = match level {
+            Level::Required => false,
+            Level::Optional | Level::Given => lacks_default(row),
+        };
+        Finding {
+            no_value: false,
+            not_allowed: false,
+            level,
+            no_default,
+        }
+    }
+
+    /// Whether the label alone is the finding.
+    pub fn is_of_label(self) -> bool
+        ensures { IsTrue result ↔ ((self.no_value ≡ false) × IsTrue self.not_allowed) }
+    {
+        !self.no_value && self.not_allowed
+    }
+
     /// Whether rows along a path refuse what has to be refused.
     pub fn is_made_by(self, rows: &[Row], path: &[Step]) -> bool
         requires { length rows.now ≡ suc (length path.now) }
@@ -34,7 +105,7 @@ impl Finding {
         if !is_demanded(rows, path) {
             return false;
         }
-        if self.not_allowed && !is_not_allowed(rows, path) {
+        if !follows(self.not_allowed, is_not_allowed(rows, path)) {
             return false;
         }
         match rows.split_last() {
@@ -48,13 +119,58 @@ impl Finding {
         ensures { IsTrue result ↔ IsMetAt self row.now }
     {
         row.known();
-        if self.no_value && !refuses_values(row) {
+        if !follows(self.no_value, refuses_values(row)) {
             return false;
         }
-        if self.no_default && !lacks_default(row) {
+        if !follows(self.no_default, lacks_default(row)) {
             return false;
         }
         self.level.number() <= row.level().number()
+    }
+}
+
+/// Whether the one holds where the other does.
+fn follows(wanted: bool, found: bool) -> bool
+    ensures { IsTrue result ↔ (IsTrue wanted → IsTrue found) }
+{
+    if wanted { found } else { true }
+}
+
+/// Whether no value may stand.
+fn lacks_value(row: &Row) -> bool
+    requires { IsRow row.now }
+    ensures { result ≡ search.lacks_value row.now }
+{
+    if row.list_ok() {
+        return lacks_length(row);
+    }
+    !row.struct_ok() && row.has_no_scalar()
+}
+
+/// Whether a row with a value is a gap: a required field that is not given, or no single value.
+fn is_gap(alloc: Global, row: &Row) -> Result<bool, Memory>
+    requires form { IsRow row.now }
+    requires value { search.lacks_value row.now ≡ false }
+    ensures { IfOk result (λ found. IsTrue found
+        ↔ ((row.now.level ≡ levels.Required) ⊎ IsOpenAt (Some row.now))) }
+{
+    if let Level::Required = row.level() {
+        return Ok(true);
+    }
+    is_open(alloc, row)
+}
+
+/// Whether a row with a value gives no single one: anything may stand, or only scalars, of which
+/// none is chosen.
+fn is_open(alloc: Global, row: &Row) -> Result<bool, Memory>
+    requires form { IsRow row.now }
+    requires value { search.lacks_value row.now ≡ false }
+    ensures { IfOk result (λ found. IsTrue found ↔ IsOpenAt (Some row.now)) }
+{
+    match (row.struct_ok(), row.list_ok()) {
+        (true, true) => Ok(row.has_all_scalars()),
+        (false, false) => Ok(row.chosen(alloc)?.is_none()),
+        (true, false) | (false, true) => Ok(false),
     }
 }
 
@@ -66,7 +182,13 @@ pub(crate) fn refuses_values(row: &Row) -> bool
     if lacks_length(row) {
         return true;
     }
-    !row.list_ok() && !row.struct_ok() && row.has_no_scalar()
+    if row.list_ok() {
+        return false;
+    }
+    if row.struct_ok() {
+        return false;
+    }
+    row.has_no_scalar()
 }
 
 /// Whether the least length is above the greatest.

@@ -33,7 +33,7 @@ pub(crate) fn trace_all<'a>(
 {
     let mut left = sources;
     let mut stack = Vec::with_capacity(alloc, left.len())?;
-    let mut behind = no_source(alloc, path)?;
+    let mut behind = free_trail(alloc, path)?;
     while let Some(source) = left.pop() {
         let trail = trail_of(alloc, &source, path)?;
         let all = met(alloc, &trail, &behind)?;
@@ -45,13 +45,6 @@ pub(crate) fn trace_all<'a>(
         behind = all;
     }
     Ok((stack, behind))
-}
-
-/// The trail of no source.
-fn no_source(alloc: Global, path: &[Step]) -> Result<Vec<Row>, Memory>
-    ensures { IfOk result (λ rows. IsTrailOf (map step_of path.now) [] rows.items) }
-{
-    free_trail(alloc, path)
 }
 
 /// The sources of a stack without those that are left out, each once and in turn, where what remains
@@ -68,7 +61,7 @@ pub(crate) fn least<'a>(
 {
     let mut left = stack;
     let mut kept = Vec::new(alloc);
-    let mut own = no_source(alloc, path)?;
+    let mut own = free_trail(alloc, path)?;
     while let Some(one) = left.pop() {
         let Traced {
             source,
@@ -76,10 +69,11 @@ pub(crate) fn least<'a>(
             behind,
         } = one;
         let others = met(alloc, &own, &behind)?;
-        if !finding.is_made_by(&others, path) {
-            own = met(alloc, &own, &trail)?;
-            kept.push(source)?;
+        if finding.is_made_by(&others, path) {
+            continue;
         }
+        own = met(alloc, &own, &trail)?;
+        kept.push(source)?;
     }
     Ok(kept)
 }

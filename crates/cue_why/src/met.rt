@@ -1,8 +1,10 @@
 //! Trails: what is refused at each place along a path, by a row for the root and one behind each
 //! step.
-ghost use Rattle.std.specs.Prelude.{◌≡◌, length, IfOk};
+ghost use Rattle.std.specs.Prelude.{◌≡◌, [], length, map, IfOk};
 ghost use Rattle.cue_row.specs.Row.{RowRefuses};
-ghost use Rattle.cue_why.specs.Inner.Trails.{AreFree, AreMet};
+ghost use Rattle.cue_row.specs.Steps.{step_of};
+ghost use Rattle.cue_why.specs.Inner.Trails.{AreMet};
+ghost use Rattle.cue_why.specs.Inner.Stacks.{IsTrailOf};
 
 use cue_lattice::{Memory, Narrow};
 use cue_row::{Row, Step};
@@ -10,7 +12,7 @@ use std::alloc::Global;
 
 /// The trail of no source along a path.
 pub(crate) fn free_trail(alloc: Global, path: &[Step]) -> Result<Vec<Row>, Memory>
-    ensures { IfOk result (λ rows. AreFree RowRefuses path.now rows.items) }
+    ensures { IfOk result (λ rows. IsTrailOf (map step_of path.now) [] rows.items) }
 {
     let mut rows = Vec::new(alloc);
     rows.push(Row::free(alloc)?)?;

@@ -72,7 +72,8 @@ fn add_row(
         None => Ok(()),
         Some(own) => {
             let held = held_row(alloc, kind, part.written.steps(), own)?;
-            row.narrow(alloc, held)
+            row.narrow(alloc, held)?;
+            Ok(())
         }
     }
 }

@@ -8,7 +8,7 @@ use Rattle.cue_why.proofs.trail.row_of.Goals as goal
 
 pub loop-part-init : goal.loop-part-init
 loop-part-init c = λ question.
-    gains_start (RowRefuses c.in_ok-free.field-0 question) (λ part. Holds c.args.kind part question) c.args.parts.now (free_asked c.in_ok-free.field-0 c.in_ok-free.ensures question)
+    gains_start (RowRefuses c.in_ok-row.row question) (λ part. Holds c.args.kind part question) c.args.parts.now (free_asked c.in_ok-row.row c.in_ok-row.ensures question)
 
 pub loop-part-preserved : goal.loop-part-preserved
 loop-part-preserved c = λ question.
