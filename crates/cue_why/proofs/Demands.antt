@@ -1,5 +1,5 @@
 -- What rows along a path say of its steps and of its end.
-use Rattle.std.proofs.Common.{◌≡◌, ◌↔◌, ◌<◌, ◌-◌, ℕ, List, [], ◌∷◌, ◌++◌, length, map, take, drop, get_or, refl, sym, ap, subst, ◌∙◌, append-nil, arith}
+use Rattle.std.proofs.Common.{◌≡◌, ◌↔◌, ◌<◌, ◌-◌, ℕ, suc, List, [], ◌∷◌, ◌++◌, length, map, take, drop, get_or, refl, sym, ap, subst, ◌∙◌, append-nil, arith}
 use Rattle.std.proofs.lemmas.List.{take_rest}
 use Rattle.cue_lattice.specs.Path.{Step, label, index, Path}
 use Rattle.cue_lattice.specs.Question.{Question, Refusals, allows, level_at_most, length_at_most}
@@ -122,3 +122,7 @@ cut_list (y ∷ ys) x h e = ap (λ z. z ∷ ys) (sym e) ∙ ap (λ zs. x ∷ zs)
 pub are_cut : (path : List Code) (rows : List Row) (step : Code) (above : Row) → 0 < length path → step ≡ get_or path 0 step → 0 < length rows → above ≡ get_or rows 0 above
     → AreCut path rows step above (take (length path - 1) (drop 1 path)) (take (length rows - 1) (drop 1 rows))
 are_cut path rows step above p a r b = record { steps = cut_list path step p a; trail = cut_list rows above r b }
+
+pub map_length : {X Y : Type 0} (f : X → Y) (xs : List X) → length (map f xs) ≡ length xs
+map_length f [] = refl
+map_length f (x ∷ xs) = ap suc (map_length f xs)

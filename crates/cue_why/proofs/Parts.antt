@@ -205,3 +205,29 @@ gains_none kind old part e question = (
   λ h. inl h,
   λ h. ⊎_elim (λ o. o) (λ g. absurd (subst (λ r. RowRefuses rows.RowRefuses r question) e g.0)) h,
 )
+
+-- ---- what was put behind others, in other terms
+pub put_as : (now old P Q : Type 0) → P ↔ Q → (now ↔ (old ⊎ P)) → now ↔ (old ⊎ Q)
+put_as now old P Q same is = (
+  λ h. ⊎_elim (λ o. inl o) (λ p. inr (same.0 p)) (is.0 h),
+  λ h. is.1 (⊎_elim (λ o. inl o) (λ q. inr (same.1 q)) h),
+)
+
+pub at_layer : (kind : LayerKind) (step : Step) (part next : WrittenPart) → kind ≡ Layer → IsOwnBelow step part next ↔ IsBelow kind step part next
+at_layer kind step part next e =
+    let is = below_layer step part next in
+    subst (λ k. IsOwnBelow step part next ↔ IsBelow k step part next) (sym e) (is.1, is.0)
+
+pub at_index : (kind : LayerKind) (step : Step) (n : ℕ) (part next : WrittenPart) → step ≡ index n → IsOwnBelow step part next ↔ IsBelow kind step part next
+at_index kind step n part next e =
+    let is = below_index kind n part next in
+    subst (λ s. IsOwnBelow s part next ↔ IsBelow kind s part next) (sym e) (is.1, is.0)
+
+pub at_label : (kind : LayerKind) (step : Step) (l : List ℕ) (part next : WrittenPart) → kind ≡ Policy → step ≡ label l → IsBelow Policy (label l) part next ↔ IsBelow kind step part next
+at_label kind step l part next e f =
+    let P : LayerKind → Step → Type 0 = λ k s. IsBelow Policy (label l) part next ↔ IsBelow k s part next in
+    subst (λ k. P k step) (sym e) (subst (λ s. P Policy s) (sym f) ((λ h. h), λ h. h))
+
+pub at_own : (own l text : List ℕ) (part next : WrittenPart) → Concerns Policy own l → text ≡ own → IsOwnBelow (label text) part next ↔ (Concerns Policy own l × IsOwnBelow (label own) part next)
+at_own own l text part next concerns e =
+    subst (λ t. IsOwnBelow (label t) part next ↔ (Concerns Policy own l × IsOwnBelow (label own) part next)) (sym e) ((λ h. (concerns, h)), λ h. h.1)

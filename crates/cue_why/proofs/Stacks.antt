@@ -1,5 +1,5 @@
 -- Stacks of sources: one more, and the one on top.
-use Rattle.std.proofs.Common.{◌≡◌, ◌↔◌, ◌⊎◌, inl, inr, ⊎_elim, ℕ, List, [], ◌∷◌, ◌++◌, length, refl, sym, ap, subst, ◌∙◌, append_assoc, append-nil}
+use Rattle.std.proofs.Common.{◌≡◌, ◌↔◌, ◌⊎◌, inl, inr, ⊎_elim, ℕ, List, [], ◌∷◌, ◌++◌, suc, length, refl, sym, ap, subst, ◌∙◌, append_assoc, append-nil}
 use Rattle.cue_lattice.specs.OneOf.{OneOf}
 use Rattle.cue_lattice.specs.Path.{Path}
 use Rattle.cue_lattice.specs.Question.{Question, level_at_most, usual}
@@ -16,7 +16,7 @@ use Rattle.cue_why.specs.declared.least.Traced.{Traced}
 use Rattle.cue_why.specs.declared.source.Source.{Source}
 use Rattle.cue_why.proofs.Makes.{IsAsNarrowAlong, demanded_more, values_more, not_allowed_more}
 use Rattle.cue_why.proofs.Pass.{one_front, one_back, one_split}
-use Rattle.cue_why.proofs.Trails.{trails_met, trail_as}
+use Rattle.cue_why.proofs.Trails.{met_length, trails_met, trail_as}
 
 pub ahead_push : (behind : List Source) (stack : List Traced) (one : Traced) → ahead_of behind (stack ++ one ∷ []) ≡ one.source ∷ ahead_of behind stack
 ahead_push behind [] one = refl
@@ -163,3 +163,31 @@ goes_end finding path all kept stack own on e = on.goes kept (subst (λ s. IsLef
 -- trails along one path are as long
 pub as_long : (path : Path) (some others : List Source) (one other : List Row) → IsTrailOf path some one → IsTrailOf path others other → length one ≡ length other
 as_long path some others one other a b = a.long ∙ sym b.long
+
+-- the rows of what is on top of a stack are as long
+pub top_long : (finding : Finding) (path : Path) (all kept : List Source) (stack next : List Traced) (one : Traced) (own : List Row) → GoesOn finding path all kept stack own → stack ≡ next ++ one ∷ []
+    → (length own ≡ length one.behind.items) × (length own ≡ length one.trail.items)
+top_long finding path all kept stack next one own on e =
+    let top = stack_pop path [] next one (subst (IsStack path []) e on.stack) in
+    (on.own.long ∙ sym top.rest.long, on.own.long ∙ sym top.own.long)
+
+pub met_long : (path : Path) (sources : List Source) (one other rows : List Row) → IsTrailOf path sources one → length one ≡ length other → AreMet RowRefuses one other rows → length rows ≡ suc (length path)
+met_long path sources one other rows a e m = met_length RowRefuses one other rows e m ∙ a.long
+
+pub as_met : (a b other next rows : List Row) → a ≡ b → other ≡ next → AreMet RowRefuses a other rows → AreMet RowRefuses b next rows
+as_met a b other next rows e f m = subst (λ xs. AreMet RowRefuses xs next rows) e (subst (λ ys. AreMet RowRefuses a ys rows) f m)
+
+pub as_meets : (finding : Finding) (path : Path) (a b : List Row) → a ≡ b → Meets finding (TrailRefuses RowRefuses path a) path → Meets finding (TrailRefuses RowRefuses path b) path
+as_meets finding path a b e m = subst (λ xs. Meets finding (TrailRefuses RowRefuses path xs) path) e m
+
+pub traced_none : (path : Path) (all : List Source) (stack : List Traced) (behind : List Row) → stack ≡ [] → IsTrailOf path [] behind → AreTraced path all all stack behind
+traced_none path all stack behind e trail = record {
+  whole = sym (append-nil all) ∙ ap (λ s. all ++ ahead_of [] s) (sym e);
+  stack = subst (IsStack path []) (sym e) tt;
+  trail = subst (λ s. IsTrailOf path (ahead_of [] s) behind) (sym e) trail;
+}
+
+pub traced_all : (path : Path) (all left : List Source) (stack : List Traced) (behind : List Row) → left ≡ [] → AreTraced path all left stack behind → (ahead_of [] stack ≡ all) × IsTrailOf path all behind
+traced_all path all left stack behind e are =
+    let whole : all ≡ ahead_of [] stack = are.whole ∙ ap (λ xs. xs ++ ahead_of [] stack) e in
+    (sym whole, subst (λ xs. IsTrailOf path xs behind) (sym whole) are.trail)

@@ -69,11 +69,10 @@ pub(crate) fn least<'a>(
             behind,
         } = one;
         let others = met(alloc, &own, &behind)?;
-        if finding.is_made_by(&others, path) {
-            continue;
+        if !finding.is_made_by(&others, path) {
+            own = met(alloc, &own, &trail)?;
+            kept.push(source)?;
         }
-        own = met(alloc, &own, &trail)?;
-        kept.push(source)?;
     }
     Ok(kept)
 }

@@ -55,9 +55,9 @@ pub record IsGapOf (row : Row) (finding : Finding) : Type 0 where
       ↔ ((¬ (row.level ≡ Required)) × HasNoDefault (at_row row) [])
 
 -- what has to be refused for a conflict
-pub record IsConflictOf (row : Row) (not_allowed : Bool) (finding : Finding) : Type 0 where
+pub record IsConflictOf (row : Row) (barred : Bool) (finding : Finding) : Type 0 where
   pub no_value : finding.no_value ≡ lacks_value row
-  pub not_allowed : finding.not_allowed ≡ not_allowed
+  pub not_allowed : finding.not_allowed ≡ barred
   pub some : IsTrue (finding.no_value || finding.not_allowed)
   pub level : finding.level ≡ Optional
   pub no_default : finding.no_default ≡ false

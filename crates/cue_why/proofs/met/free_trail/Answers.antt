@@ -1,5 +1,6 @@
 use Rattle.std.proofs.Common.{◌≡◌, ◌+◌, suc, length, map, sym, rules}
 use Rattle.cue_row.specs.Steps.{step_of}
+use Rattle.cue_why.proofs.Demands.{map_length}
 use Rattle.cue_why.proofs.Mets.{free_one, free_more, free_trail}
 use Rattle.cue_why.proofs.met.free_trail.Goals as goal
 
@@ -16,5 +17,4 @@ loop-step-preserved c =
 pub returns : goal.returns
 returns c =
     let long : length c.loop-step.rows.items ≡ suc (length c.args.path.now) = search rules in
-    let same : length c.args.path.now ≡ length (map step_of c.args.path.now) = search rules in
-    free_trail c.args.path.now (map step_of c.args.path.now) c.loop-step.rows.items same (record { long = long; free = c.loop-step.invariant.free })
+    free_trail c.args.path.now (map step_of c.args.path.now) c.loop-step.rows.items (sym (map_length step_of c.args.path.now)) (record { long = long; free = c.loop-step.invariant.free })

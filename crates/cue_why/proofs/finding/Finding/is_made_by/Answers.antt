@@ -1,9 +1,9 @@
-use Rattle.std.proofs.Common.{◌≡◌, true, map, length, suc, ◌∙◌, ap, rules}
+use Rattle.std.proofs.Common.{map, ◌∙◌, ap, suc, sym, rules}
 use Rattle.std.specs.Prelude.{IsTrue}
-use Rattle.std.proofs.lemmas.List.{length-map}
 use Rattle.cue_row.specs.Row.{RowRefuses}
 use Rattle.cue_row.specs.Steps.{step_of}
 use Rattle.cue_why.specs.Inner.Trails.{TrailRefuses}
+use Rattle.cue_why.proofs.Demands.{map_length}
 use Rattle.cue_why.proofs.RowFacts.{end_row, met_at}
 use Rattle.cue_why.proofs.finding.Finding.is_made_by.Goals as goal
 
@@ -11,7 +11,7 @@ pub returns-in-Some : goal.returns-in-Some
 returns-in-Some c =
     let path = map step_of c.args.path.now in
     let own = TrailRefuses RowRefuses path c.args.rows.now in
-    let long : length c.args.rows.now ≡ suc (length path) = search rules in
+    let long = c.requires ∙ ap suc (sym (map_length step_of c.args.path.now)) in
     let same = end_row path c.args.rows.now c.in-Some._above.now c.in-Some.row.now c.in-Some.ensures.cases.0 long in
     let asked : IsTrue c.is_demanded.result = search rules in
     let kept : IsTrue c.follows.result = search rules in
