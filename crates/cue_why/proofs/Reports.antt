@@ -165,7 +165,7 @@ module _ (view : Refusals) (path : Path) (row : Row) (barred : Bool) (same : (qu
   found_is finding h = ⊎_elim (λ c. conflict_found finding c) (λ g. gap_found finding g.0 g.1 g.2 g.3) h
 
   pub nothing_is : lacks_value row ≡ false → barred ≡ false → ¬ HasGap row → ¬ IsReported view path
-  nothing_is v e no h = ⊎_elim
+  nothing_is v e against h = ⊎_elim
       (λ c.
           let is : IsConflict view c.0 = c.2 in
           let at : c.0.path ≡ path = c.1 in
@@ -173,7 +173,7 @@ module _ (view : Refusals) (path : Path) (row : Row) (barred : Bool) (same : (qu
       (λ g.
           let is : IsGap view g.0 = g.2 in
           let at : g.0.path ≡ path = g.1 in
-          ⊎_elim (λ m. no (inl (missing_is.0 (subst (IsMissing view) at m)))) (λ o. no (inr (open_back (⊎_elim (λ f. inl (subst (IsFree view) at f)) (λ n. inr (subst (HasNoChoice view) at n)) o)))) is.cause)
+          ⊎_elim (λ m. against (inl (missing_is.0 (subst (IsMissing view) at m)))) (λ o. against (inr (open_back (⊎_elim (λ f. inl (subst (IsFree view) at f)) (λ n. inr (subst (HasNoChoice view) at n)) o)))) is.cause)
       h
     where
       clear : IsClear view path
@@ -181,7 +181,7 @@ module _ (view : Refusals) (path : Path) (row : Row) (barred : Bool) (same : (qu
 
 -- what is not demanded is not reported
 pub not_demanded : (view : Refusals) (path : Path) → ¬ IsDemanded view path → ¬ IsReported view path
-not_demanded view path no h = ⊎_elim
-    (λ c. let is : IsConflict view c.0 = c.2 in let at : c.0.path ≡ path = c.1 in no (subst (IsDemanded view) at is.demanded))
-    (λ g. let is : IsGap view g.0 = g.2 in let at : g.0.path ≡ path = g.1 in no (subst (IsDemanded view) at is.demanded))
+not_demanded view path against h = ⊎_elim
+    (λ c. let is : IsConflict view c.0 = c.2 in let at : c.0.path ≡ path = c.1 in against (subst (IsDemanded view) at is.demanded))
+    (λ g. let is : IsGap view g.0 = g.2 in let at : g.0.path ≡ path = g.1 in against (subst (IsDemanded view) at is.demanded))
     h

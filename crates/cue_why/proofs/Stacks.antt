@@ -95,7 +95,7 @@ left_as P Q same kept (x ∷ ahead) left h = ⊎_elim
 -- ---- the loops over stacks
 pub record AreTraced (path : Path) (all left : List Source) (stack : List Traced) (behind : List Row) : Type 0 where
   pub whole : all ≡ left ++ ahead_of [] stack
-  pub stack : IsStack path [] stack
+  pub stacked : IsStack path [] stack
   pub trail : IsTrailOf path (ahead_of [] stack) behind
 
 pub traced_more :
@@ -106,16 +106,16 @@ traced_more path all left next x stack more one behind rows are e is rest trail 
     let ahead : ahead_of [] more ≡ x ∷ ahead_of [] stack = ap (ahead_of []) items ∙ ahead_push [] stack one ∙ ap (λ s. s ∷ ahead_of [] stack) is in
     record {
       whole = are.whole ∙ ap (λ xs. xs ++ ahead_of [] stack) e ∙ append_assoc next (x ∷ []) (ahead_of [] stack) ∙ ap (λ xs. next ++ xs) (sym ahead);
-      stack = subst (IsStack path []) (sym items)
+      stacked = subst (IsStack path []) (sym items)
           (stack_push path [] stack one
-          (record { below = are.stack; rest = subst (IsTrailOf path (ahead_of [] stack)) (sym rest) are.trail; own = subst (λ s. IsTrailOf path (s ∷ []) one.trail.items) (sym is) trail }));
+          (record { below = are.stacked; rest = subst (IsTrailOf path (ahead_of [] stack)) (sym rest) are.trail; own = subst (λ s. IsTrailOf path (s ∷ []) one.trail.items) (sym is) trail }));
       trail = subst (λ xs. IsTrailOf path xs rows) (sym ahead) (one_more path x (ahead_of [] stack) one.trail.items behind rows trail are.trail met);
     }
 
 -- what is left of a pass goes on as that of the whole
 pub record GoesOn (finding : Finding) (path : Path) (all kept : List Source) (stack : List Traced) (own : List Row) : Type 0 where
-  pub stack : IsStack path [] stack
-  pub own : IsTrailOf path kept own
+  pub stacked : IsStack path [] stack
+  pub trail : IsTrailOf path kept own
   pub goes : (left : List Source) → IsLeft (Suffice finding path) kept (ahead_of [] stack) left → IsLeft (Suffice finding path) [] all left
 
 ahead_pop : (stack next : List Traced) (one : Traced) → stack ≡ next ++ one ∷ [] → ahead_of [] stack ≡ one.source ∷ ahead_of [] next
@@ -126,11 +126,11 @@ pub goes_without :
     (finding : Finding) (path : Path) (all kept : List Source) (stack next : List Traced) (one : Traced) (own others : List Row) → GoesOn finding path all kept stack own → stack ≡ next ++ one ∷ []
     → AreMet RowRefuses own one.behind.items others → Meets finding (TrailRefuses RowRefuses path others) path → GoesOn finding path all kept next own
 goes_without finding path all kept stack next one own others on e met makes =
-    let top = stack_pop path [] next one (subst (IsStack path []) e on.stack) in
-    let suffices = (suffices_is finding path (kept ++ ahead_of [] next) others (both_trails path kept (ahead_of [] next) own one.behind.items others on.own top.rest met)).0 makes in
+    let top = stack_pop path [] next one (subst (IsStack path []) e on.stacked) in
+    let suffices = (suffices_is finding path (kept ++ ahead_of [] next) others (both_trails path kept (ahead_of [] next) own one.behind.items others on.trail top.rest met)).0 makes in
     record {
-      stack = top.below;
-      own = on.own;
+      stacked = top.below;
+      trail = on.trail;
       goes = λ left h. on.goes left (subst (λ xs. IsLeft (Suffice finding path) kept xs left) (sym (ahead_pop stack next one e)) (inl (suffices, h)));
     }
 
@@ -140,11 +140,11 @@ pub goes_with :
     → AreMet RowRefuses own one.behind.items others → ¬ Meets finding (TrailRefuses RowRefuses path others) path → AreMet RowRefuses own one.trail.items rows → more ≡ kept ++ one.source ∷ []
     → GoesOn finding path all more next rows
 goes_with finding path all kept more stack next one own others rows on e met makes joined items =
-    let top = stack_pop path [] next one (subst (IsStack path []) e on.stack) in
-    let same = suffices_is finding path (kept ++ ahead_of [] next) others (both_trails path kept (ahead_of [] next) own one.behind.items others on.own top.rest met) in
+    let top = stack_pop path [] next one (subst (IsStack path []) e on.stacked) in
+    let same = suffices_is finding path (kept ++ ahead_of [] next) others (both_trails path kept (ahead_of [] next) own one.behind.items others on.trail top.rest met) in
     record {
-      stack = top.below;
-      own = subst (λ xs. IsTrailOf path xs rows) (sym items) (both_trails path kept (one.source ∷ []) own one.trail.items rows on.own top.own joined);
+      stacked = top.below;
+      trail = subst (λ xs. IsTrailOf path xs rows) (sym items) (both_trails path kept (one.source ∷ []) own one.trail.items rows on.trail top.own joined);
       goes = λ left h.
           let rest = subst (λ xs. IsLeft (Suffice finding path) xs (ahead_of [] next) left) items h in
           on.goes left (subst (λ xs. IsLeft (Suffice finding path) kept xs left) (sym (ahead_pop stack next one e)) (inr (λ s. makes (same.1 s), rest)));
@@ -152,8 +152,8 @@ goes_with finding path all kept more stack next one own others rows on e met mak
 
 pub goes_start : (finding : Finding) (path : Path) (stack : List Traced) (kept : List Source) (own : List Row) → IsStack path [] stack → kept ≡ [] → IsTrailOf path [] own → GoesOn finding path (ahead_of [] stack) kept stack own
 goes_start finding path stack kept own is none trail = record {
-  stack = is;
-  own = subst (λ xs. IsTrailOf path xs own) (sym none) trail;
+  stacked = is;
+  trail = subst (λ xs. IsTrailOf path xs own) (sym none) trail;
   goes = λ left h. subst (λ xs. IsLeft (Suffice finding path) xs (ahead_of [] stack) left) none h;
 }
 
@@ -168,8 +168,8 @@ as_long path some others one other a b = a.long ∙ sym b.long
 pub top_long : (finding : Finding) (path : Path) (all kept : List Source) (stack next : List Traced) (one : Traced) (own : List Row) → GoesOn finding path all kept stack own → stack ≡ next ++ one ∷ []
     → (length own ≡ length one.behind.items) × (length own ≡ length one.trail.items)
 top_long finding path all kept stack next one own on e =
-    let top = stack_pop path [] next one (subst (IsStack path []) e on.stack) in
-    (on.own.long ∙ sym top.rest.long, on.own.long ∙ sym top.own.long)
+    let top = stack_pop path [] next one (subst (IsStack path []) e on.stacked) in
+    (on.trail.long ∙ sym top.rest.long, on.trail.long ∙ sym top.own.long)
 
 pub met_long : (path : Path) (sources : List Source) (one other rows : List Row) → IsTrailOf path sources one → length one ≡ length other → AreMet RowRefuses one other rows → length rows ≡ suc (length path)
 met_long path sources one other rows a e m = met_length RowRefuses one other rows e m ∙ a.long
@@ -183,7 +183,7 @@ as_meets finding path a b e m = subst (λ xs. Meets finding (TrailRefuses RowRef
 pub traced_none : (path : Path) (all : List Source) (stack : List Traced) (behind : List Row) → stack ≡ [] → IsTrailOf path [] behind → AreTraced path all all stack behind
 traced_none path all stack behind e trail = record {
   whole = sym (append-nil all) ∙ ap (λ s. all ++ ahead_of [] s) (sym e);
-  stack = subst (IsStack path []) (sym e) tt;
+  stacked = subst (IsStack path []) (sym e) tt;
   trail = subst (λ s. IsTrailOf path (ahead_of [] s) behind) (sym e) trail;
 }
 

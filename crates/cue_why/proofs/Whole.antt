@@ -11,7 +11,9 @@ use Rattle.cue_report.specs.declared.gap.Gap.{Gap}
 use Rattle.cue_row.specs.Row.{RowRefuses}
 use Rattle.cue_row.specs.declared.parts.RowParts.{RowParts as Row}
 use Rattle.cue_policies.specs.Tables.{table_part}
-use Rattle.cue_policies.specs.View.{Part, PartRefuses, Declares, ViewRefuses}
+use Rattle.cue_policies.specs.View.{PartRefuses, Declares, ViewRefuses}
+use Rattle.cue_policies.specs.declared.kind.LayerKind.{LayerKind}
+use Rattle.cue_table.specs.Tree.{Tree}
 use Rattle.cue_why.specs.Finding.{Makes, IsClear, HasNoDefault}
 use Rattle.cue_why.specs.Least.{IsLeft, IsLeast}
 use Rattle.cue_why.specs.Reported.{IsReported}
@@ -133,7 +135,7 @@ one_map f P (x ∷ xs) =
 
 view_is : (sources : List Source) (path : Path) (question : Question) → SourcesRefuse sources path question ↔ ViewRefuses source_part sources path question
 view_is sources path question =
-    let pair = λ (s : Source). (s.kind, s.table.now) in
+    let pair : Source → LayerKind × Tree Row = λ s. (s.kind, s.table.now) in
     let here = one_map pair (λ part. PartRefuses (table_part part) path question) sources in (
       λ h. ((λ place l further e. (one_map pair (λ part. Declares (table_part part) place l) sources).0 (h.0 place l further e)), here.0 h.1),
       λ h. ((λ place l further e. (one_map pair (λ part. Declares (table_part part) place l) sources).1 (h.0 place l further e)), here.1 h.1),

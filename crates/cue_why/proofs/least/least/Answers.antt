@@ -20,7 +20,7 @@ is_made_by-requires c =
     let path = map step_of c.args.path.now in
     let long = top_long c.args.finding path (ahead_of [] c.args.stack.items) c.loop-one.kept.items c.loop-one.left.items c.pop.new.self.items c.in-Some.one c.loop-one.own.items c.loop-one.invariant c.in-Some.ensures.items in
     let met = as_met c.deref.result.now c.loop-one.own.items c.deref-in-Some.result.now c.in-Some.one.behind.items c.in_ok-others.others.items c.deref.ensures.value c.deref-in-Some.ensures.value c.in_ok-others.ensures in
-    ap length c.deref-in-Some-2.ensures.value ∙ met_long path c.loop-one.kept.items c.loop-one.own.items c.in-Some.one.behind.items c.in_ok-others.others.items c.loop-one.invariant.own long.0 met ∙ ap suc (map_length step_of c.args.path.now)
+    ap length c.deref-in-Some-2.ensures.value ∙ met_long path c.loop-one.kept.items c.loop-one.own.items c.in-Some.one.behind.items c.in_ok-others.others.items c.loop-one.invariant.trail long.0 met ∙ ap suc (map_length step_of c.args.path.now)
 
 pub met-requires-then-not-is_made_by : goal.met-requires-then-not-is_made_by
 met-requires-then-not-is_made_by c =
