@@ -1,12 +1,12 @@
 -- What is demanded of the view of layers along a path is what some of them demand there, and what the
 -- view refuses at a demanded path is what one of them refuses.
-use Rattle.std.proofs.Common.{◌≡◌, ◌⊎◌, inl, inr, ⊎_elim, ℕ, List, [], ◌∷◌, ◌++◌, refl, sym, subst, ap, ◌∙◌, append_assoc}
+use Rattle.std.proofs.Common.{◌≡◌, ⊎_elim, ℕ, List, [], ◌∷◌, ◌++◌, sym, subst, ap, ◌∙◌, append_assoc}
 use Rattle.cue_lattice.specs.OneOf.{OneOf}
 use Rattle.cue_lattice.specs.Path.{Step, label, index, Path}
-use Rattle.cue_lattice.specs.Question.{Question, Refusals, level_at_most, length_at_most}
-use Rattle.cue_report.specs.Answers.{IsStepDemanded, IsDemanded}
-use Rattle.cue_policies.specs.Patterns.{IsPatternOf, Concerns}
-use Rattle.cue_policies.specs.View.{Part, IsAlong, IsPatternStep, EndsInPattern, PartRefuses, Declares, IsDeclared, ViewRefuses}
+use Rattle.cue_lattice.specs.Question.{Refusals, level_at_most}
+use Rattle.cue_report.specs.Answers.{IsDemanded}
+use Rattle.cue_policies.specs.Patterns.{IsPatternOf}
+use Rattle.cue_policies.specs.View.{Part, IsPatternStep, EndsInPattern, PartRefuses, Declares, IsDeclared, ViewRefuses}
 use Rattle.cue_policies.specs.declared.kind.LayerKind.{LayerKind}
 use Rattle.cue_policies.proofs.Views.{pick, put, more_refuse_more}
 use Rattle.cue_why.specs.Finding.{Makes}

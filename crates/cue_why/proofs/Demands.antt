@@ -2,8 +2,8 @@
 use Rattle.std.proofs.Common.{◌≡◌, ◌↔◌, ◌<◌, ◌-◌, ℕ, suc, List, [], ◌∷◌, ◌++◌, length, map, take, drop, get_or, refl, sym, ap, subst, ◌∙◌, append-nil, arith}
 use Rattle.std.proofs.lemmas.List.{take_rest}
 use Rattle.cue_lattice.specs.Path.{Step, label, index, Path}
-use Rattle.cue_lattice.specs.Question.{Question, Refusals, allows, level_at_most, length_at_most}
-use Rattle.cue_report.specs.Answers.{further, IsStepDemanded, IsDemanded, IsNotAllowed}
+use Rattle.cue_lattice.specs.Question.{Question, Refusals, allows}
+use Rattle.cue_report.specs.Answers.{IsStepDemanded, IsDemanded, IsNotAllowed}
 use Rattle.cue_row.specs.Row.{RowRefuses}
 use Rattle.cue_row.specs.Steps.{step_of}
 use Rattle.cue_row.specs.declared.parts.RowParts.{RowParts as Row}

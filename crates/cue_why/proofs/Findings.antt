@@ -1,9 +1,8 @@
 -- What has to be refused for a finding.
-use Rattle.std.proofs.Common.{◌≡◌, ◌↔◌, ℕ, ◌<◌}
-use Rattle.std.specs.Prelude.{IsTrue}
+use Rattle.std.proofs.Common.{◌↔◌}
 use Rattle.cue_lattice.specs.Path.{Path}
-use Rattle.cue_lattice.specs.Question.{Refusals, level_at_most}
-use Rattle.cue_why.specs.Finding.{IsClear, Makes}
+use Rattle.cue_lattice.specs.Question.{Refusals}
+use Rattle.cue_why.specs.Finding.{Makes}
 use Rattle.cue_why.specs.Inner.Findings.{IsFinding, Meets}
 use Rattle.cue_why.specs.declared.finding.Finding.{Finding}
 

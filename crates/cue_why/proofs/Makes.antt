@@ -1,9 +1,9 @@
 -- What makes a finding still does with more that is refused along its path.
-use Rattle.std.proofs.Common.{◌≡◌, ◌⊎◌, inl, inr, ⊎_elim, ℕ, List, [], ◌∷◌, ◌++◌, sym, ◌∙◌, append_assoc, append-nil}
+use Rattle.std.proofs.Common.{◌≡◌, inl, inr, ⊎_elim, [], ◌∷◌, ◌++◌, sym, ◌∙◌, append_assoc, append-nil}
 use Rattle.cue_lattice.specs.Path.{Step, label, index, Path}
 use Rattle.cue_lattice.specs.Question.{Question, Refusals, may_be, usual, struct, list, allows, level_at_most, length_at_most, length_at_least}
-use Rattle.cue_report.specs.Answers.{further, IsStepDemanded, IsDemanded, HasNoLength, HasNoValue, IsNotAllowed}
-use Rattle.cue_why.specs.Finding.{RefusesValues, HasNoDefault, Makes}
+use Rattle.cue_report.specs.Answers.{IsStepDemanded, IsDemanded, HasNoValue, IsNotAllowed}
+use Rattle.cue_why.specs.Finding.{RefusesValues, Makes}
 
 -- the one refuses what the other does, at each beginning of a path
 pub record IsAsNarrowAlong (a b : Refusals) (path : Path) : Type 0 where

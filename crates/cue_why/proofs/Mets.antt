@@ -3,7 +3,7 @@ use Rattle.std.proofs.Common.{◌≡◌, ◌↔◌, ◌⊎◌, inl, inr, ⊎_eli
 use Rattle.std.specs.List.{AllByRecursion}
 use Rattle.std.proofs.lemmas.List.{drop_more, drop_all}
 use Rattle.cue_lattice.specs.Path.{Path}
-use Rattle.cue_lattice.specs.Question.{Question, Refusals}
+use Rattle.cue_lattice.specs.Question.{Question}
 use Rattle.cue_row.specs.Row.{RowRefuses, Refuses, IsMetRow}
 use Rattle.cue_row.specs.Questions.{asked_by}
 use Rattle.cue_row.specs.declared.parts.RowParts.{RowParts as Row}
@@ -39,7 +39,7 @@ met_more one other rows new i a b r p e q f is items so_far = record {
       let cut_one : a ∷ drop (i + 1) one ≡ drop i one = ap (λ z. z ∷ drop (i + 1) one) e ∙ sym (drop_more one i a p) in
       let cut_other : b ∷ drop (i + 1) other ≡ drop i other = ap (λ z. z ∷ drop (i + 1) other) f ∙ sym (drop_more other i b q) in
       let there : AreMet RowRefuses (drop i one) (drop i other) (r ∷ tail) =
-          subst (λ xs. AreMet RowRefuses xs (drop i other) (r ∷ tail)) cut_one (subst (λ ys. AreMet RowRefuses (a ∷ drop (i + 1) one) ys (r ∷ tail)) cut_other here) in
+      subst (λ xs. AreMet RowRefuses xs (drop i other) (r ∷ tail)) cut_one (subst (λ ys. AreMet RowRefuses (a ∷ drop (i + 1) one) ys (r ∷ tail)) cut_other here) in
       let whole : rows ++ (r ∷ tail) ≡ new ++ tail = sym (append_assoc rows (r ∷ []) tail) ∙ ap (λ xs. xs ++ tail) (sym items) in
       subst (AreMet RowRefuses one other) whole (so_far.then (r ∷ tail) there);
 }

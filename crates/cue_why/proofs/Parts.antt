@@ -17,8 +17,8 @@ use Rattle.cue_row.specs.Row as rows
 use Rattle.cue_row.specs.declared.level.Level.TheVariants.{Optional}
 use Rattle.cue_row.specs.declared.parts.RowParts.{RowParts as Row}
 use Rattle.cue_row.specs.declared.question.Question as program
-use Rattle.cue_table.specs.Refuses.{RowRefuses, TableRefuses}
-use Rattle.cue_table.specs.Tree.{Tree, branch_at, row_of, row_at, step_into, labels_of, below}
+use Rattle.cue_table.specs.Refuses.{RowRefuses}
+use Rattle.cue_table.specs.Tree.{Tree, branch_at, row_of, step_into, labels_of, below}
 use Rattle.cue_why.specs.Inner.Parts.{IsStepAlong, IsIn, AreParts, IsOwnBelow, IsBelow, Holds, IsHeldRow, GainsPart}
 use Rattle.cue_why.specs.declared.part.WrittenPart.{WrittenPart}
 use Rattle.cue_why.proofs.Along.{along_nil, along_in, along_out}
@@ -154,12 +154,12 @@ pub held_refuses : (kind : LayerKind) (written : Path) (row held : Row) (questio
     → rows.RowRefuses held question ↔ (rows.RowRefuses row question × ¬ (EndsInPattern kind written × IsLevel question))
 held_refuses kind written row held question is = ⊎_elim
     (λ ends.
-        let at = loose row question in
-        let P : Row → Type 0 = λ r. rows.RowRefuses r question ↔ (rows.RowRefuses row question × ¬ (EndsInPattern kind written × IsLevel question)) in
-        subst P (sym ends.1) (λ h. let both = at.0 h in (both.0, λ e. both.1 e.1), λ h. at.1 (h.0, λ level. h.1 (ends.0, level))))
+    let at = loose row question in
+    let P : Row → Type 0 = λ r. rows.RowRefuses r question ↔ (rows.RowRefuses row question × ¬ (EndsInPattern kind written × IsLevel question)) in
+    subst P (sym ends.1) (λ h. let both = at.0 h in (both.0, λ e. both.1 e.1), λ h. at.1 (h.0, λ level. h.1 (ends.0, level))))
     (λ not.
-        let P : Row → Type 0 = λ r. rows.RowRefuses r question ↔ (rows.RowRefuses row question × ¬ (EndsInPattern kind written × IsLevel question)) in
-        subst P (sym not.1) (λ h. (h, λ e. not.0 e.0), λ h. h.0))
+    let P : Row → Type 0 = λ r. rows.RowRefuses r question ↔ (rows.RowRefuses row question × ¬ (EndsInPattern kind written × IsLevel question)) in
+    subst P (sym not.1) (λ h. (h, λ e. not.0 e.0), λ h. h.0))
     is
 
 -- ---- lists of parts that get longer

@@ -21,9 +21,9 @@ module _ {X : Type 0} where
       let same : k ≡ b = cc in
       let rest : kept ++ x ∷ [] ≡ before ++ y ∷ after = cc in
       ⊎_elim
-          (λ h. inl (h.0, let e2 = h.1 in cc))
-          (λ h. let e2 = h.2 in let e3 : k ∷ kept ≡ b ∷ (before ++ y ∷ h.0) = cc in inr (h.0, h.1, e3))
-          (split_last kept before after x y rest)
+      (λ h. inl (h.0, let e2 = h.1 in cc))
+      (λ h. let e2 = h.2 in let e3 : k ∷ kept ≡ b ∷ (before ++ y ∷ h.0) = cc in inr (h.0, h.1, e3))
+      (split_last kept before after x y rest)
 
   pub one_front : (P : X → Type 0) (xs ys : List X) → OneOf P xs → OneOf P (xs ++ ys)
   one_front P [] ys h = absurd h
@@ -50,20 +50,20 @@ module _ {X : Type 0} (Suffices : List X → Type 0)
   unfolding AllNeeded
   fewer kept ahead x needed before after y e h =
       needed before after y e
-          (more (before ++ (after ++ ahead)) (before ++ (after ++ x ∷ ahead))
-              (λ z one. ⊎_elim
-                  (λ a. one_front (λ w. w ≡ z) before (after ++ x ∷ ahead) a)
-                  (λ b. one_back (λ w. w ≡ z) before (after ++ x ∷ ahead) (one_more (λ w. w ≡ z) after ahead x b))
-                  (one_split (λ w. w ≡ z) before (after ++ ahead) one))
-              h)
+      (more (before ++ (after ++ ahead)) (before ++ (after ++ x ∷ ahead))
+      (λ z one. ⊎_elim
+      (λ a. one_front (λ w. w ≡ z) before (after ++ x ∷ ahead) a)
+      (λ b. one_back (λ w. w ≡ z) before (after ++ x ∷ ahead) (one_more (λ w. w ≡ z) after ahead x b))
+      (one_split (λ w. w ≡ z) before (after ++ ahead) one))
+      h)
 
   further : (kept ahead : List X) (x : X) → ¬ Suffices (kept ++ ahead) → AllNeeded kept (x ∷ ahead) → AllNeeded (kept ++ x ∷ []) ahead
   unfolding AllNeeded
   further kept ahead x not needed before after y e h = ⊎_elim
       (λ last. not (subst (λ xs. Suffices (xs ++ ahead)) last.1 (subst (λ xs. Suffices (before ++ (xs ++ ahead))) last.0 h)))
       (λ inner.
-          let e2 : after ++ ahead ≡ inner.0 ++ x ∷ ahead = ap (λ xs. xs ++ ahead) inner.1 ∙ append_assoc inner.0 (x ∷ []) ahead in
-          needed before inner.0 y inner.2 (subst (λ xs. Suffices (before ++ xs)) e2 h))
+      let e2 : after ++ ahead ≡ inner.0 ++ x ∷ ahead = ap (λ xs. xs ++ ahead) inner.1 ∙ append_assoc inner.0 (x ∷ []) ahead in
+      needed before inner.0 y inner.2 (subst (λ xs. Suffices (before ++ xs)) e2 h))
       (split_last kept before after x y e)
 
   goes : (kept ahead left : List X) → Suffices (kept ++ ahead) → AllNeeded kept ahead → IsLeft Suffices kept ahead left → IsLeast Suffices left

@@ -1,5 +1,5 @@
 -- What is reported at a demanded path, by the row at its end.
-use Rattle.std.proofs.Common.{◌≡◌, ◌↔◌, ◌⊎◌, inl, inr, ⊎_elim, ℕ, ◌<◌, Bool, true, false, ◌||◌, List, [], Some, refl, sym, ap, subst, ◌∙◌, arith}
+use Rattle.std.proofs.Common.{◌≡◌, ◌↔◌, ◌⊎◌, inl, inr, ⊎_elim, ℕ, ◌<◌, Bool, true, false, ◌||◌, [], Some, refl, sym, subst, ◌∙◌, arith}
 use Rattle.std.specs.Prelude.{IsTrue}
 use Rattle.std.proofs.lemmas.Bool.{false≢true}
 use Rattle.cue_lattice.specs.declared.scalar.Scalar.{Scalar}
@@ -10,17 +10,15 @@ use Rattle.cue_row.specs.Row.{IsRow, RowRefuses}
 use Rattle.cue_row.specs.declared.level.Level.{Level}
 use Rattle.cue_row.specs.declared.level.Level.TheVariants.{Optional, Required, Given}
 use Rattle.cue_row.specs.declared.parts.RowParts.{RowParts as Row}
-use Rattle.cue_report.specs.Answers.{IsDemanded, HasNoScalar, HasNoValue, IsNotAllowed}
-use Rattle.cue_report.specs.Gaps.{IsMissing, MayStand, IsUsual, IsOnly, IsChosen, IsFree, HasNoChoice, IsGap}
+use Rattle.cue_report.specs.Answers.{IsDemanded, HasNoValue, IsNotAllowed}
+use Rattle.cue_report.specs.Gaps.{IsMissing, MayStand, IsUsual, IsChosen, IsFree, HasNoChoice, IsGap}
 use Rattle.cue_report.specs.Listing.{IsConflict}
-use Rattle.cue_report.specs.declared.conflict.Conflict.{Conflict}
-use Rattle.cue_report.specs.declared.gap.Gap.{Gap}
 use Rattle.cue_report.specs.Inner.GapSearch.{AtPlace, IsOpenAt}
 use Rattle.cue_report.specs.Inner.Search.{lacks_value}
 use Rattle.cue_report.proofs.Rows.{no_value_is}
 use Rattle.cue_why.specs.Finding.{HasNoDefault, IsClear}
 use Rattle.cue_why.specs.Reported.{IsReported}
-use Rattle.cue_why.specs.Inner.Findings.{IsFinding, IsReportedAs, IsGapOf, IsConflictOf, HasGap, IsFoundAt, IsNothingAt, at_row}
+use Rattle.cue_why.specs.Inner.Findings.{IsReportedAs, IsGapOf, IsConflictOf, HasGap}
 use Rattle.cue_why.specs.declared.finding.Finding.{Finding}
 
 -- ---- the same at two paths
@@ -148,14 +146,17 @@ module _ (view : Refusals) (path : Path) (row : Row) (barred : Bool) (same : (qu
         λ h. is.no_default.1 ((λ r. h.1 (missing_is.1 r)), λ scalar s. (same (usual scalar)).0 (h.2 scalar s)),
       );
     },
-    inr
-    (record { path = path; missing = is_required row.level }, refl, record {
-      demanded = demanded;
-      has_value = clear.has_value;
-      allowed = clear.allowed;
-      missing = (λ t. missing_is.1 ((required_is row.level).0 t), λ m. (required_is row.level).1 (missing_is.0 m));
-      cause = ⊎_elim (λ r. inl (missing_is.1 r)) (λ o. inr (open_is o)) has;
-    }),
+    inr (
+      record { path = path; missing = is_required row.level },
+      refl,
+      record {
+        demanded = demanded;
+        has_value = clear.has_value;
+        allowed = clear.allowed;
+        missing = (λ t. missing_is.1 ((required_is row.level).0 t), λ m. (required_is row.level).1 (missing_is.0 m));
+        cause = ⊎_elim (λ r. inl (missing_is.1 r)) (λ o. inr (open_is o)) has;
+      },
+    ),
   )
     where
       clear : IsClear view path
@@ -167,13 +168,13 @@ module _ (view : Refusals) (path : Path) (row : Row) (barred : Bool) (same : (qu
   pub nothing_is : lacks_value row ≡ false → barred ≡ false → ¬ HasGap row → ¬ IsReported view path
   nothing_is v e against h = ⊎_elim
       (λ c.
-          let is : IsConflict view c.0 = c.2 in
-          let at : c.0.path ≡ path = c.1 in
-          ⊎_elim (λ t. clear.has_value (subst (HasNoValue view) at (is.no_value.0 t))) (λ t. clear.allowed (subst (IsNotAllowed view) at (is.not_allowed.0 t))) (either c.0.no_value c.0.not_allowed is.cause))
+      let is : IsConflict view c.0 = c.2 in
+      let at : c.0.path ≡ path = c.1 in
+      ⊎_elim (λ t. clear.has_value (subst (HasNoValue view) at (is.no_value.0 t))) (λ t. clear.allowed (subst (IsNotAllowed view) at (is.not_allowed.0 t))) (either c.0.no_value c.0.not_allowed is.cause))
       (λ g.
-          let is : IsGap view g.0 = g.2 in
-          let at : g.0.path ≡ path = g.1 in
-          ⊎_elim (λ m. against (inl (missing_is.0 (subst (IsMissing view) at m)))) (λ o. against (inr (open_back (⊎_elim (λ f. inl (subst (IsFree view) at f)) (λ n. inr (subst (HasNoChoice view) at n)) o)))) is.cause)
+      let is : IsGap view g.0 = g.2 in
+      let at : g.0.path ≡ path = g.1 in
+      ⊎_elim (λ m. against (inl (missing_is.0 (subst (IsMissing view) at m)))) (λ o. against (inr (open_back (⊎_elim (λ f. inl (subst (IsFree view) at f)) (λ n. inr (subst (HasNoChoice view) at n)) o)))) is.cause)
       h
     where
       clear : IsClear view path

@@ -1,18 +1,15 @@
 -- What a row refuses at its place, by what the code asks of it.
-use Rattle.std.proofs.Common.{◌≡◌, ◌↔◌, ◌⊎◌, inl, inr, ⊎_elim, ℕ, suc, ◌<◌, ◌≤◌, Bool, true, false, List, [], ◌∷◌, ◌++◌, length, map, nat_lt, Option, None, Some, refl, sym, ap, ◌∙◌, subst, arith}
+use Rattle.std.proofs.Common.{◌≡◌, ◌↔◌, ◌⊎◌, inl, inr, ⊎_elim, ℕ, suc, ◌<◌, ◌≤◌, true, false, List, [], ◌∷◌, ◌++◌, length, Option, None, Some, refl, sym, ap, ◌∙◌, subst, arith}
 use Rattle.std.specs.Prelude.{IsTrue}
 use Rattle.std.proofs.lemmas.Bool.{false≢true}
 use Rattle.std.proofs.lemmas.Bool.Decides.{nat_tests}
-use Rattle.cue_lattice.specs.declared.scalar.Scalar.{Scalar}
 use Rattle.cue_lattice.specs.Path.{Path}
-use Rattle.cue_lattice.specs.Scalar.{IsScalar}
 use Rattle.cue_lattice.specs.Question.{Question, Refusals, may_be, usual, struct, list, level_at_most, length_at_most, length_at_least}
 use Rattle.cue_row.specs.Kinds.{IsEmptySet}
 use Rattle.cue_row.specs.Lengths.{RefusesLength}
-use Rattle.cue_row.specs.Levels.{level_of}
 use Rattle.cue_row.specs.Row.{IsRow, RowRefuses}
 use Rattle.cue_row.specs.declared.parts.RowParts.{RowParts as Row}
-use Rattle.cue_report.specs.Answers.{IsDemanded, IsNotAllowed, HasNoLength}
+use Rattle.cue_report.specs.Answers.{IsDemanded, IsNotAllowed}
 use Rattle.cue_report.specs.Inner.Search.{is_above, is_empty_set}
 use Rattle.cue_report.proofs.Empty.{refused_empty, empty_refused, empty_members, refused}
 use Rattle.cue_why.specs.Finding.{RefusesValues, HasNoDefault}

@@ -1,6 +1,5 @@
 -- Stacks of sources: one more, and the one on top.
-use Rattle.std.proofs.Common.{◌≡◌, ◌↔◌, ◌⊎◌, inl, inr, ⊎_elim, ℕ, List, [], ◌∷◌, ◌++◌, suc, length, refl, sym, ap, subst, ◌∙◌, append_assoc, append-nil}
-use Rattle.cue_lattice.specs.OneOf.{OneOf}
+use Rattle.std.proofs.Common.{◌≡◌, ◌↔◌, ◌⊎◌, inl, inr, ⊎_elim, List, [], ◌∷◌, ◌++◌, suc, length, refl, sym, ap, subst, ◌∙◌, append_assoc, append-nil}
 use Rattle.cue_lattice.specs.Path.{Path}
 use Rattle.cue_lattice.specs.Question.{Question, level_at_most, usual}
 use Rattle.cue_row.specs.Row.{RowRefuses}
@@ -10,7 +9,7 @@ use Rattle.cue_why.specs.Least.{IsLeft}
 use Rattle.cue_why.specs.Sources.{source_part}
 use Rattle.cue_why.specs.Inner.Findings.{Meets}
 use Rattle.cue_why.specs.Inner.Stacks.{LineRefuses, IsTrailOf, ahead_of, IsStack, Suffice}
-use Rattle.cue_why.specs.Inner.Trails.{TrailRefuses, AreMet, IsTrail}
+use Rattle.cue_why.specs.Inner.Trails.{TrailRefuses, AreMet}
 use Rattle.cue_why.specs.declared.finding.Finding.{Finding}
 use Rattle.cue_why.specs.declared.least.Traced.{Traced}
 use Rattle.cue_why.specs.declared.source.Source.{Source}
@@ -45,22 +44,22 @@ pub one_more : (path : Path) (source : Source) (behind : List Source) (trail res
     → IsTrailOf path (source ∷ behind) rows
 one_more path source behind trail rest rows a b m =
     trail_as RowRefuses (λ place question. LineRefuses (source ∷ []) place question ⊎ LineRefuses behind place question) (LineRefuses (source ∷ behind)) path rows
-        (λ place question. (
-          λ h. ⊎_elim (λ p. ⊎_elim (λ x. inl x) (λ e. absurd e) p) (λ q. inr q) h,
-          λ h. ⊎_elim (λ p. inl (inl p)) (λ q. inr q) h,
-        ))
-        (trails_met RowRefuses (LineRefuses (source ∷ [])) (LineRefuses behind) path trail rest rows a b m)
+    (λ place question. (
+      λ h. ⊎_elim (λ p. ⊎_elim (λ x. inl x) (λ e. absurd e) p) (λ q. inr q) h,
+      λ h. ⊎_elim (λ p. inl (inl p)) (λ q. inr q) h,
+    ))
+    (trails_met RowRefuses (LineRefuses (source ∷ [])) (LineRefuses behind) path trail rest rows a b m)
 
 -- the trail of two lists of sources
 pub both_trails : (path : Path) (some others : List Source) (one other rows : List Row) → IsTrailOf path some one → IsTrailOf path others other → AreMet RowRefuses one other rows
     → IsTrailOf path (some ++ others) rows
 both_trails path some others one other rows a b m =
     trail_as RowRefuses (λ place question. LineRefuses some place question ⊎ LineRefuses others place question) (LineRefuses (some ++ others)) path rows
-        (λ place question. (
-          λ h. ⊎_elim (λ p. one_front (λ s. PartRefuses (source_part s) place question) some others p) (λ q. one_back (λ s. PartRefuses (source_part s) place question) some others q) h,
-          λ h. one_split (λ s. PartRefuses (source_part s) place question) some others h,
-        ))
-        (trails_met RowRefuses (LineRefuses some) (LineRefuses others) path one other rows a b m)
+    (λ place question. (
+      λ h. ⊎_elim (λ p. one_front (λ s. PartRefuses (source_part s) place question) some others p) (λ q. one_back (λ s. PartRefuses (source_part s) place question) some others q) h,
+      λ h. one_split (λ s. PartRefuses (source_part s) place question) some others h,
+    ))
+    (trails_met RowRefuses (LineRefuses some) (LineRefuses others) path one other rows a b m)
 
 -- what is met along a path by the one is met by what refuses as much
 pub meets_more : (finding : Finding) (a b : Path → Question → Type 0) (path : Path) → IsAsNarrowAlong a b path → ((question : Question) → b path question → a path question)

@@ -1,9 +1,9 @@
 -- The trail of one source, step by step.
-use Rattle.std.proofs.Common.{◌≡◌, ◌↔◌, ◌⊎◌, inl, inr, ⊎_elim, ◌<◌, ◌≤◌, ◌+◌, ℕ, zero, suc, List, [], ◌∷◌, ◌++◌, length, map, take, drop, get_or, refl, sym, ap, subst, ◌∙◌, add-one, append-nil, arith}
-use Rattle.std.proofs.lemmas.List.{take_all, drop_all}
+use Rattle.std.proofs.Common.{◌≡◌, ◌↔◌, inl, ⊎_elim, ◌<◌, ◌≤◌, ◌+◌, ℕ, zero, suc, List, [], ◌∷◌, ◌++◌, length, map, take, drop, get_or, sym, ap, subst, ◌∙◌, add-one, arith}
+use Rattle.std.proofs.lemmas.List.{drop_all}
 use Rattle.cue_lattice.specs.OneOf.{OneOf}
 use Rattle.cue_lattice.specs.Path.{Path}
-use Rattle.cue_lattice.specs.Question.{Question, Refusals}
+use Rattle.cue_lattice.specs.Question.{Question}
 use Rattle.cue_policies.specs.Tables.{table_part}
 use Rattle.cue_policies.specs.View.{PartRefuses}
 use Rattle.cue_policies.specs.declared.kind.LayerKind.{LayerKind}
@@ -69,7 +69,7 @@ at_more kind root p i s parts seen found seen_found rows new row less e same bel
     let refused = PartRefuses (table_part (kind, root)) in
     let cut = cut_at p i s less e in
     let next : AreParts kind root (take i path ++ step_of s ∷ []) found =
-        parts_step kind root (take i path) (step_of s) parts found at.here (λ one. subst (λ xs. IsIn one found ↔ OneOf (λ part. IsBelow kind (step_of s) part one) xs) same (below one)) in
+    parts_step kind root (take i path) (step_of s) parts found at.here (λ one. subst (λ xs. IsIn one found ↔ OneOf (λ part. IsBelow kind (step_of s) part one) xs) same (below one)) in
     let so_far : IsTrailTo RowRefuses refused path (take i path) (step_of s ∷ drop (i + 1) path) rows = subst (λ ahead. IsTrailTo RowRefuses refused path (take i path) ahead rows) cut.1 at.trail in
     let more = trail_goes RowRefuses refused path (take i path) (drop (i + 1) path) (step_of s) rows row so_far (row_is kind root (take i path ++ step_of s ∷ []) found seen_found row same_found next is) in
     let all : IsTrailTo RowRefuses refused path (take i path ++ step_of s ∷ []) (drop (i + 1) path) new = subst (IsTrailTo RowRefuses refused path (take i path ++ step_of s ∷ []) (drop (i + 1) path)) (sym items) more in

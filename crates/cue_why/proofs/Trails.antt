@@ -1,5 +1,5 @@
 -- Rows along a path: one more of them, and those of two trails together.
-use Rattle.std.proofs.Common.{◌≡◌, ◌↔◌, ◌⊎◌, inl, inr, ⊎_elim, ℕ, suc, ◌+◌, List, [], ◌∷◌, ◌++◌, length, refl, sym, ap, subst, ◌∙◌, append_assoc, append-nil, arith}
+use Rattle.std.proofs.Common.{◌≡◌, ◌↔◌, ◌⊎◌, inl, inr, ⊎_elim, suc, List, [], ◌∷◌, ◌++◌, length, refl, sym, ap, subst, ◌∙◌, append_assoc, append-nil, arith}
 use Rattle.cue_lattice.specs.Path.{Step, Path}
 use Rattle.cue_lattice.specs.Question.{Question, Refusals}
 use Rattle.cue_why.specs.Inner.Trails.{TrailRefuses, AreMet, IsTrail}
@@ -21,9 +21,9 @@ beginning (d ∷ done) (p ∷ place) after step e =
     let same : d ≡ p = cc in
     let rest : done ++ step ∷ [] ≡ place ++ after = cc in
     ⊎_elim
-        (λ h. let e1 = h.1 in let whole : p ∷ place ≡ d ∷ (done ++ step ∷ []) = cc in inl (h.0, whole))
-        (λ h. let e2 = h.2 in let whole : d ∷ done ≡ p ∷ (place ++ h.0) = cc in inr (h.0, h.1, whole))
-        (beginning done place after step rest)
+    (λ h. let e1 = h.1 in let whole : p ∷ place ≡ d ∷ (done ++ step ∷ []) = cc in inl (h.0, whole))
+    (λ h. let e2 = h.2 in let whole : d ∷ done ≡ p ∷ (place ++ h.0) = cc in inr (h.0, h.1, whole))
+    (beginning done place after step rest)
 
 module _ {R : Type 0} (refuses : R → Question → Type 0) where
   abbrev Refuses : Path → List R → Refusals

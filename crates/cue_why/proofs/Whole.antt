@@ -1,7 +1,7 @@
 -- The sources that are left of a pass make the finding of the view, and are a least list.
-use Rattle.std.proofs.Common.{◌≡◌, ◌↔◌, ◌⊎◌, inl, inr, ⊎_elim, ℕ, List, [], ◌∷◌, ◌++◌, map, sym, subst, append-nil}
+use Rattle.std.proofs.Common.{◌≡◌, ◌↔◌, inl, inr, ⊎_elim, List, [], ◌∷◌, map, sym, subst, append-nil}
 use Rattle.cue_lattice.specs.OneOf.{OneOf}
-use Rattle.cue_lattice.specs.Path.{label, Path}
+use Rattle.cue_lattice.specs.Path.{Path}
 use Rattle.cue_lattice.specs.Question.{Question, Refusals, level_at_most, usual}
 use Rattle.cue_report.specs.Answers.{IsDemanded, HasNoValue, IsNotAllowed}
 use Rattle.cue_report.specs.Gaps.{IsMissing, IsFree, HasNoChoice, IsGap}
@@ -14,11 +14,11 @@ use Rattle.cue_policies.specs.Tables.{table_part}
 use Rattle.cue_policies.specs.View.{PartRefuses, Declares, ViewRefuses}
 use Rattle.cue_policies.specs.declared.kind.LayerKind.{LayerKind}
 use Rattle.cue_table.specs.Tree.{Tree}
-use Rattle.cue_why.specs.Finding.{Makes, IsClear, HasNoDefault}
+use Rattle.cue_why.specs.Finding.{IsClear}
 use Rattle.cue_why.specs.Least.{IsLeft, IsLeast}
 use Rattle.cue_why.specs.Reported.{IsReported}
-use Rattle.cue_why.specs.Sources.{source_part, tables_of, SourcesRefuse, SourcesMake}
-use Rattle.cue_why.specs.Inner.Findings.{IsFinding, IsReportedAs, Meets}
+use Rattle.cue_why.specs.Sources.{source_part, SourcesRefuse, SourcesMake}
+use Rattle.cue_why.specs.Inner.Findings.{IsFinding, IsReportedAs}
 use Rattle.cue_why.specs.Inner.Stacks.{LineRefuses, IsTrailOf, Suffice}
 use Rattle.cue_why.specs.Inner.Trails.{TrailRefuses}
 use Rattle.cue_why.specs.declared.finding.Finding.{Finding}
@@ -120,8 +120,8 @@ module _ (a b : Refusals) (path : Path) (ab : IsAsNarrowAlong a b path) (ba : Is
               cause = ⊎_elim
                   (λ m. inl (subst (IsMissing b) back (missing_to (subst (IsMissing a) e m))))
                   (λ o. inr (⊎_elim
-                      (λ f. inl (subst (IsFree b) back (free_as a b path path to from (subst (IsFree a) e f))))
-                      (λ n. inr (subst (HasNoChoice b) back (no_choice_as a b path path to from (subst (HasNoChoice a) e n)))) o))
+                  (λ f. inl (subst (IsFree b) back (free_as a b path path to from (subst (IsFree a) e f))))
+                  (λ n. inr (subst (HasNoChoice b) back (no_choice_as a b path path to from (subst (HasNoChoice a) e n)))) o))
                   is.cause;
             },
           )
@@ -166,12 +166,12 @@ module _ (path : Path) (sources : List Source) (rows : List Row) (trail : IsTrai
   view_rows demanded =
       let asked = demanded_more (LineRefuses sources) Rows path line_rows demanded in
       narrow_through (SourcesRefuse sources) (ViewRefuses source_part sources) Rows path (sources_narrow sources path)
-          (narrow_through (ViewRefuses source_part sources) (LineRefuses sources) Rows path (view_narrow source_part sources path asked) line_rows)
+      (narrow_through (ViewRefuses source_part sources) (LineRefuses sources) Rows path (view_narrow source_part sources path asked) line_rows)
 
   rows_view : IsAsNarrowAlong Rows (SourcesRefuse sources) path
   rows_view =
       narrow_through Rows (LineRefuses sources) (SourcesRefuse sources) path rows_line
-          (narrow_through (LineRefuses sources) (ViewRefuses source_part sources) (SourcesRefuse sources) path (line_narrow source_part sources path) (narrow_sources sources path))
+      (narrow_through (LineRefuses sources) (ViewRefuses source_part sources) (SourcesRefuse sources) path (line_narrow source_part sources path) (narrow_sources sources path))
 
   pub view_finding : (finding : Finding) → IsReportedAs Rows path finding → IsFinding (SourcesRefuse sources) path finding
   view_finding finding is = finding_as Rows (SourcesRefuse sources) path rows_view (view_rows is.0.demanded) finding is.0
@@ -202,7 +202,7 @@ more_make : (all : List Source) (path : Path) (some others : List Source) → ((
 more_make all path some others among m =
     let view = makes_more (SourcesRefuse all) (ViewRefuses source_part some) (SourcesRefuse some) path (narrow_sources some path) m in
     makes_more (SourcesRefuse all) (SourcesRefuse others) (ViewRefuses source_part others) path (sources_narrow others path)
-        (makes_with_more source_part (SourcesRefuse all) path some others among view)
+    (makes_with_more source_part (SourcesRefuse all) path some others among view)
 
 pub left_make : (all left : List Source) (path : Path) (finding : Finding) → IsFinding (SourcesRefuse all) path finding → IsLeft (Suffice finding path) [] all left → IsLeft (SourcesMake all path) [] all left
 left_make all left path finding is h = left_as (Suffice finding path) (SourcesMake all path) (λ some. suffice_is all some path finding is) [] all left h

@@ -60,12 +60,7 @@ fn row_of(alloc: Global, kind: LayerKind, parts: &[WrittenPart]) -> Result<Row, 
 }
 
 /// Unifies what a part refuses at its place into a row.
-fn add_row(
-    alloc: Global,
-    row: &mut Row,
-    kind: LayerKind,
-    part: &WrittenPart,
-) -> Result<(), Memory>
+fn add_row(alloc: Global, row: &mut Row, kind: LayerKind, part: &WrittenPart) -> Result<(), Memory>
     ensures { OnOk result (GainsPart kind row.old part.now row.new) }
 {
     match part.branch.row() {

@@ -1,4 +1,4 @@
-use Rattle.std.proofs.Common.{sym, ◌∙◌}
+use Rattle.std.proofs.Common.{sym}
 use Rattle.cue_row.specs.Steps.{step_of}
 use Rattle.cue_why.proofs.Parts.{own_some}
 use Rattle.cue_why.proofs.below.add_own.Goals as goal

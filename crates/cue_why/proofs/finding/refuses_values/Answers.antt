@@ -1,6 +1,6 @@
 use Rattle.std.proofs.Common.{◌≡◌, false, sym, ◌∙◌}
 use Rattle.std.proofs.lemmas.Bool.{false≢true}
-use Rattle.cue_why.proofs.RowFacts.{values_above, values_within, values_all}
+use Rattle.cue_why.proofs.RowFacts.{values_within, values_all}
 use Rattle.cue_why.proofs.finding.refuses_values.Goals as goal
 
 pub returns-then-list_ok : goal.returns-then-list_ok

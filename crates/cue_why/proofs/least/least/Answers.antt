@@ -1,4 +1,4 @@
-use Rattle.std.proofs.Common.{◌≡◌, [], map, suc, length, sym, ap, ◌∙◌, rules}
+use Rattle.std.proofs.Common.{[], map, suc, length, sym, ap, ◌∙◌, rules}
 use Rattle.std.proofs.lemmas.Bool.{false≢true}
 use Rattle.cue_row.specs.Steps.{step_of}
 use Rattle.cue_why.specs.Inner.Stacks.{ahead_of}

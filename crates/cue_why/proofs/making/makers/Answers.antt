@@ -1,4 +1,4 @@
-use Rattle.std.proofs.Common.{◌≡◌, [], List, map, sym, subst}
+use Rattle.std.proofs.Common.{[], map, sym, subst}
 use Rattle.cue_row.specs.Row.{RowRefuses}
 use Rattle.cue_row.specs.Steps.{step_of}
 use Rattle.cue_why.specs.Least.{IsLeft}

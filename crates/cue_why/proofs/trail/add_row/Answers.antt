@@ -1,6 +1,5 @@
-use Rattle.std.proofs.Common.{◌≡◌, Option, Some, map, sym, ap, subst, ◌∙◌, Bor}
+use Rattle.std.proofs.Common.{◌≡◌, Some, sym, ap, subst, ◌∙◌, Bor}
 use Rattle.std.specs.Option.{option_map}
-use Rattle.cue_row.specs.Steps.{step_of}
 use Rattle.cue_row.specs.declared.parts.RowParts.{RowParts as Row}
 use Rattle.cue_table.specs.Tree.{row_of}
 use Rattle.cue_why.specs.Inner.Parts.{IsHeldRow}

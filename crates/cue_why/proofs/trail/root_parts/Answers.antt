@@ -1,4 +1,4 @@
-use Rattle.std.proofs.Common.{◌≡◌, ◌∷◌, ◌++◌, [], map, ap, ◌∙◌}
+use Rattle.std.proofs.Common.{◌∷◌, ◌++◌, [], map, ap, ◌∙◌}
 use Rattle.cue_row.specs.Steps.{step_of}
 use Rattle.cue_why.specs.declared.part.WrittenPart.{WrittenPart}
 use Rattle.cue_why.proofs.Parts.{root_parts}
