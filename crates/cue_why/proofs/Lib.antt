@@ -1,0 +1,15 @@
+pub mod Along
+pub mod Calls
+pub mod Declaring
+pub mod Demands
+pub mod Findings
+pub mod Makes
+pub mod Mets
+pub mod Parts
+pub mod Pass
+pub mod Reports
+pub mod RowFacts
+pub mod Stacks
+pub mod Tracing
+pub mod Trails
+pub mod Whole

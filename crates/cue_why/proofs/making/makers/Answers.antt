@@ -1,0 +1,61 @@
+use Rattle.std.proofs.Common.{[], map, sym, subst}
+use Rattle.cue_row.specs.Row.{RowRefuses}
+use Rattle.cue_row.specs.Steps.{step_of}
+use Rattle.cue_why.specs.Least.{IsLeft}
+use Rattle.cue_why.specs.Reported.{IsReported}
+use Rattle.cue_why.specs.Inner.Findings.{IsReportedAs}
+use Rattle.cue_why.specs.Inner.Stacks.{IsTrailOf, Suffice}
+use Rattle.cue_why.specs.Inner.Trails.{TrailRefuses}
+use Rattle.cue_why.proofs.Calls.{at_some, at_none}
+use Rattle.cue_why.proofs.Whole.{view_finding, view_reported, rows_reported, left_make, least_make}
+use Rattle.cue_why.proofs.making.makers.Goals as goal
+
+pub returns-in-None-clause-left : goal.returns-in-None-clause-left
+returns-in-None-clause-left c = λ reported.
+    let path = map step_of c.args.path.now in
+    let all = c.args.sources.items in
+    let rows = c.deref.result.now in
+    let trail = subst (IsTrailOf path all) (sym c.deref.ensures.value) c.in_ok-stack.ensures.trail in
+    let none : Type 0 = ¬ IsReported (TrailRefuses RowRefuses path rows) path in
+    absurd (at_none c.in_ok-at.field-0 none c.in-None.is c.in_ok-at.ensures.none (rows_reported path all rows trail reported))
+
+pub returns-in-None-clause-least : goal.returns-in-None-clause-least
+returns-in-None-clause-least c = λ reported.
+    let path = map step_of c.args.path.now in
+    let all = c.args.sources.items in
+    let rows = c.deref.result.now in
+    let trail = subst (IsTrailOf path all) (sym c.deref.ensures.value) c.in_ok-stack.ensures.trail in
+    let none : Type 0 = ¬ IsReported (TrailRefuses RowRefuses path rows) path in
+    absurd (at_none c.in_ok-at.field-0 none c.in-None.is c.in_ok-at.ensures.none (rows_reported path all rows trail reported))
+
+pub returns-clause-none : goal.returns-clause-none
+returns-clause-none c = λ silent.
+    let path = map step_of c.args.path.now in
+    let all = c.args.sources.items in
+    let rows = c.deref.result.now in
+    let trail = subst (IsTrailOf path all) (sym c.deref.ensures.value) c.in_ok-stack.ensures.trail in
+    let is = at_some c.in_ok-at.field-0 c.in-Some.finding (IsReportedAs (TrailRefuses RowRefuses path rows) path) c.in-Some.is c.in_ok-at.ensures.some in
+    absurd (silent (view_reported path all rows trail is.1))
+
+pub returns-clause-left : goal.returns-clause-left
+returns-clause-left c = λ reported.
+    let path = map step_of c.args.path.now in
+    let all = c.args.sources.items in
+    let rows = c.deref.result.now in
+    let kept = c.in_ok-kept-in-Some.kept.items in
+    let trail = subst (IsTrailOf path all) (sym c.deref.ensures.value) c.in_ok-stack.ensures.trail in
+    let is = at_some c.in_ok-at.field-0 c.in-Some.finding (IsReportedAs (TrailRefuses RowRefuses path rows) path) c.in-Some.is c.in_ok-at.ensures.some in
+    let passed = subst (λ xs. IsLeft (Suffice c.in-Some.finding path) [] xs kept) c.in_ok-stack.ensures.sources c.in_ok-kept-in-Some.ensures in
+    left_make all kept path c.in-Some.finding (view_finding path all rows trail c.in-Some.finding is) passed
+
+pub returns-clause-least : goal.returns-clause-least
+returns-clause-least c = λ reported.
+    let path = map step_of c.args.path.now in
+    let all = c.args.sources.items in
+    let rows = c.deref.result.now in
+    let kept = c.in_ok-kept-in-Some.kept.items in
+    let trail = subst (IsTrailOf path all) (sym c.deref.ensures.value) c.in_ok-stack.ensures.trail in
+    let is = at_some c.in_ok-at.field-0 c.in-Some.finding (IsReportedAs (TrailRefuses RowRefuses path rows) path) c.in-Some.is c.in_ok-at.ensures.some in
+    let finding = view_finding path all rows trail c.in-Some.finding is in
+    let passed = subst (λ xs. IsLeft (Suffice c.in-Some.finding path) [] xs kept) c.in_ok-stack.ensures.sources c.in_ok-kept-in-Some.ensures in
+    least_make all kept path c.in-Some.finding finding (left_make all kept path c.in-Some.finding finding passed)

@@ -1,0 +1,5 @@
+pub mod Finding
+pub mod Inner
+pub mod Least
+pub mod Reported
+pub mod Sources
