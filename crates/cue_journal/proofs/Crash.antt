@@ -97,3 +97,22 @@ committed seen may front batch junk ps end stands b some size is only =
 -- what is staged of a batch with a closed gate behind it
 pub tail_is : (bytes batch : List ℕ) → bytes ≡ batch ++ 0 ∷ [] → take (length bytes - 1) (drop 1 bytes) ≡ drop 1 (batch ++ 0 ∷ [])
 tail_is bytes batch is = take_rest bytes 1 ∙ ap (drop 1) is
+
+-- bytes behind the gate that don't count
+pub filled : (seen new : List ℕ) (may after : List ℕ → Type 0) (end n : ℕ) → (s : IsSettled seen may end) → Torn (end + 1) n seen new → Only new after
+    → IsSettled new after end × (recovered new ≡ recovered seen)
+filled seen new may after end n s torn only =
+    let moved : Torn (length s.front + 1) n (s.front ++ s.gate ∷ s.junk) new = subst (λ e. Torn (e + 1) n (s.front ++ s.gate ∷ s.junk) new) s.size (subst (λ f. Torn (end + 1) n f new) s.file torn) in
+    let same : recovered new ≡ recovered seen = stage_torn seen may end n new s torn in (
+      record {
+        front = s.front;
+        gate = s.gate;
+        junk = drop (length s.front + 1) new;
+        file = torn_behind s.front s.junk new s.gate n moved;
+        shut = s.shut;
+        size = s.size;
+        stands = subst (StandsFor s.front) (sym same) s.stands;
+        durable = only;
+      },
+      same,
+    )
