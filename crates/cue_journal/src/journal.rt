@@ -63,12 +63,18 @@ fn fill<D: Disk>(disk: &mut D, end: usize, bytes: &[u8]) -> io::Result<Room>
         → IsSettled (D.seen disk.new) (D.may_leave disk.new) end
         × (recovered (D.seen disk.new) ≡ recovered (D.seen disk.old))) }
 {
-    let room = match disk.write_at(end + 1, bytes) {
-        Ok(()) => Room::Enough,
-        Err(error) => Room::Refused(error),
-    };
-    disk.sync()?;
-    Ok(room)
+    match disk.write_at(end + 1, bytes) {
+        Ok(()) => {
+            disk.sync()?;
+            Ok(Room::Enough)
+        }
+        Err(error) => {
+            // What was written of it takes room that others may need.
+            let _cut = disk.set_len(end + 1);
+            disk.sync()?;
+            Ok(Room::Refused(error))
+        }
+    }
 }
 
 /// Opens the gate, and has it reach the disk: from then on the blocks behind it count.

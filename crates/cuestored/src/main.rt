@@ -7,7 +7,8 @@ mod files;
 use crate::files::{open_site, token_in};
 use anyhow::Result;
 use clap::error::Error;
-use cue_http::serve;
+use cue_http::{Ended, serve};
+use cue_service::Shown;
 use cue_settings::{Stop, Words, command, may_listen, words_of};
 use log::sink::Console;
 use log::{Level, Logged, error, info};
@@ -28,11 +29,30 @@ fn run(rt: &HostRuntime, words: &Words) -> Result<()> {
     }
     let sources = words.sources(rt)?;
     let site = open_site(rt, &log, words, token)?;
-    let listener = TcpListener::bind(rt, listen)?;
+    let listener = match TcpListener::bind(rt, listen) {
+        Ok(listener) => listener,
+        Err(error) => return Err(Stop::system(rt.alloc(), "listen on", words.listen, error).into()),
+    };
     let address = listener.local_addr()?;
     info!(log; "listening on http://{address}");
-    serve(rt, &log, listener, words.bounds(), &sources, site, u64::MAX)?;
-    Ok(())
+    match serve(rt, &log, listener, words.bounds(), &sources, site, u64::MAX) {
+        Ok(()) => Ok(()),
+        Err(ended) => Err(stop_of(rt, words, ended)?.into()),
+    }
+}
+
+/// What ended a site over these files.
+fn stop_of(rt: &HostRuntime, words: &Words, ended: Ended) -> Result<Stop> {
+    let alloc = rt.alloc();
+    Ok(match ended {
+        Ended::Unsettled(error) => {
+            let data = words.data;
+            let files = format!(in alloc; "{data}/journal or {data}/journal-wal")?;
+            Stop::system(alloc, "write", files.as_str(), error)
+        }
+        Ended::System(call, error) => Stop::system(alloc, call, words.listen, error),
+        Ended::OutOfMemory => Stop::OutOfMemory,
+    })
 }
 
 /// Does what these words ask for, the name of the program in front, and answers the exit status.
@@ -50,7 +70,8 @@ fn answer(rt: &HostRuntime, given: &[String]) -> Result<ExitCode> {
         Ok(()) => Ok(ExitCode::SUCCESS),
         Err(stop) => {
             let log = Logged::new(rt, Level::Info, Console(rt));
-            error!(log; "{stop}");
+            let line = format!(in rt.alloc(); "{stop}")?;
+            error!(log; "{}", Shown(line.as_str()));
             Ok(ExitCode::FAILURE)
         }
     }
