@@ -42,6 +42,31 @@ pub struct Site<D: Disk> {
     fault: Option<io::Error>,
 }
 
+/// Why a call failed.
+fn fault_of<T>(answer: &io::Result<T>) -> Option<io::Error> {
+    match answer {
+        Ok(_) => None,
+        Err(error) => Some(*error),
+    }
+}
+
+/// Notes what came of a snapshot of so many bytes.
+fn note(
+    snapshots: &mut Snapshots,
+    standing: &mut Standing,
+    size: usize,
+    condensed: &io::Result<Room>,
+) {
+    match condensed {
+        Ok(Room::Enough) => {
+            snapshots.written(size);
+            standing.condensed(size);
+        }
+        Ok(Room::Refused(error)) => standing.refused_snapshot(*error),
+        Err(_) => {}
+    }
+}
+
 impl<D: Disk> Site<D> {
     ghost use Rattle.cue_service.specs.Sites.{IsConsistent};
     ghost use Rattle.cue_service.specs.Inner.Rounds.{IsCommittedBy, IsCondensedBy};
@@ -79,13 +104,9 @@ impl<D: Disk> Site<D> {
         let Site {
             desk, files, fault, ..
         } = self;
-        match files.commit(&mut desk.batch) {
-            Ok(()) => true,
-            Err(error) => {
-                *fault = Some(error);
-                false
-            }
-        }
+        let done = files.commit(&mut desk.batch);
+        *fault = fault_of(&done);
+        done.is_ok()
     }
 
     /// Puts the state in the place of a journal that has become long since the last one: as long as
@@ -118,21 +139,10 @@ impl<D: Disk> Site<D> {
             desk.standing.refused_snapshot(ErrorKind::OutOfMemory.into());
             return true;
         }
-        match files.condense(&mut desk.batch) {
-            Ok(Room::Enough) => {
-                snapshots.written(state.len());
-                desk.standing.condensed(state.len());
-                true
-            }
-            Ok(Room::Refused(error)) => {
-                desk.standing.refused_snapshot(error);
-                true
-            }
-            Err(error) => {
-                *fault = Some(error);
-                false
-            }
-        }
+        let condensed = files.condense(&mut desk.batch);
+        *fault = fault_of(&condensed);
+        note(snapshots, &mut desk.standing, state.len(), &condensed);
+        condensed.is_ok()
     }
 }
 

@@ -1,9 +1,9 @@
-use Rattle.std.proofs.Common.{◌<◌, ◌^◌, length, sym, ap, ◌∙◌, refl, arith}
+use Rattle.std.proofs.Common.{◌<◌, ◌^◌, length, sym, ap, ◌∙◌, refl, arith, ⊎_elim}
 use Rattle.cue_journal.specs.Batches.{batch_bytes}
 use Rattle.cue_replica.specs.Language.{language}
 use Rattle.cue_replica.proofs.Sound.{sound}
-use Rattle.cue_service.proofs.Condensing.{condensed_site, condensed_left}
-use Rattle.cue_service.proofs.Opening.{not_failed, took, refused}
+use Rattle.cue_service.proofs.Condensing.{condensed_site, condensed_left, condensed_or_kept, kept_site}
+use Rattle.cue_service.proofs.Opening.{not_failed, refused}
 use Rattle.cue_service.proofs.site.Site.condense.Goals as goal
 
 pub returns : goal.returns
@@ -15,8 +15,11 @@ returns g c =
     let written = c.deref.ensures.value ∙ c.in-Ok.ensures ∙ ap language.written c.table.ensures in
     record {
       consistent = λ pieces stands empty before.
-          condensed_site g.D.Disk.seen g.D.Disk.may_leave sound c.args.self.now _ pieces bytes (batch_bytes c.push.new.self) before empty (omega (arith, short)) written added
-          (took c.condense.result (sym c.is_ok.ensures.value ∙ stands) c.condense.ensures.condensed) refl c.condense.ensures.empty;
+          ⊎_elim
+              (λ condensed. condensed_site g.D.Disk.seen g.D.Disk.may_leave sound c.args.self.now _ pieces bytes (batch_bytes c.push.new.self) before empty (omega (arith, short)) written added
+                  condensed refl c.condense.ensures.empty)
+              (λ kept. kept_site g.D.Disk.seen g.D.Disk.may_leave c.args.self.now _ pieces before empty kept refl c.condense.ensures.empty)
+              (condensed_or_kept c.condense.result (sym c.is_ok.ensures.value ∙ stands) c.condense.ensures.condensed c.condense.ensures.kept);
       crash = λ pieces empty before left may.
           condensed_left g.D.Disk.seen g.D.Disk.may_leave sound c.args.self.now pieces bytes (batch_bytes c.push.new.self) before empty (omega (arith, short)) written added left
           (λ ready batch. c.condense.ensures.crash ready batch left may);
