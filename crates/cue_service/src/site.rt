@@ -102,7 +102,10 @@ impl<D: Disk> Site<D> {
         ensures { IsCommittedBy D.Disk.seen D.Disk.may_leave self.old result self.new }
     {
         let Site {
-            desk, files, fault, ..
+            desk,
+            files,
+            fault,
+            ..
         } = self;
         let done = files.commit(&mut desk.batch);
         *fault = fault_of(&done);
@@ -132,11 +135,13 @@ impl<D: Disk> Site<D> {
             return true;
         }
         let Ok(state) = desk.board.table().state(desk.alloc) else {
-            desk.standing.refused_snapshot(ErrorKind::OutOfMemory.into());
+            desk.standing
+                .refused_snapshot(ErrorKind::OutOfMemory.into());
             return true;
         };
         if desk.batch.push(STATE, &state).is_err() {
-            desk.standing.refused_snapshot(ErrorKind::OutOfMemory.into());
+            desk.standing
+                .refused_snapshot(ErrorKind::OutOfMemory.into());
             return true;
         }
         let condensed = files.condense(&mut desk.batch);

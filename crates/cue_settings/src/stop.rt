@@ -11,7 +11,7 @@ use thiserror::Error;
 #[derive(Debug, Drop, Error)]
 pub enum Stop {
     /// An operation of the system on a file or an address failed.
-    #[error("{operation} {file}: {error}")]
+    #[error("{operation}: {error}: {file}")]
     System {
         operation: &'static str,
         file: String,

@@ -47,7 +47,7 @@ fn stop_of(rt: &HostRuntime, words: &Words, ended: Ended) -> Result<Stop> {
     Ok(match ended {
         Ended::Unsettled(error) => {
             let data = words.data;
-            let files = format!(in alloc; "{data}/journal or {data}/journal-wal")?;
+            let files = format!(in alloc; "{data}/journal or journal-wal")?;
             Stop::system(alloc, "write", files.as_str(), error)
         }
         Ended::System(call, error) => Stop::system(alloc, call, words.listen, error),

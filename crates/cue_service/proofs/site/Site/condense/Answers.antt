@@ -16,10 +16,10 @@ returns g c =
     record {
       consistent = λ pieces stands empty before.
           ⊎_elim
-              (λ condensed. condensed_site g.D.Disk.seen g.D.Disk.may_leave sound c.args.self.now _ pieces bytes (batch_bytes c.push.new.self) before empty (omega (arith, short)) written added
-                  condensed refl c.condense.ensures.empty)
-              (λ kept. kept_site g.D.Disk.seen g.D.Disk.may_leave c.args.self.now _ pieces before empty kept refl c.condense.ensures.empty)
-              (condensed_or_kept c.condense.result (sym c.is_ok.ensures.value ∙ stands) c.condense.ensures.condensed c.condense.ensures.kept);
+          (λ condensed. condensed_site g.D.Disk.seen g.D.Disk.may_leave sound c.args.self.now _ pieces bytes (batch_bytes c.push.new.self) before empty (omega (arith, short)) written added
+          condensed refl c.condense.ensures.empty)
+          (λ kept. kept_site g.D.Disk.seen g.D.Disk.may_leave c.args.self.now _ pieces before empty kept refl c.condense.ensures.empty)
+          (condensed_or_kept c.condense.result (sym c.is_ok.ensures.value ∙ stands) c.condense.ensures.condensed c.condense.ensures.kept);
       crash = λ pieces empty before left may.
           condensed_left g.D.Disk.seen g.D.Disk.may_leave sound c.args.self.now pieces bytes (batch_bytes c.push.new.self) before empty (omega (arith, short)) written added left
           (λ ready batch. c.condense.ensures.crash ready batch left may);
