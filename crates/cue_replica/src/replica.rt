@@ -169,6 +169,21 @@ impl Replica {
         Ok(())
     }
 
+    /// The table that the site holds.
+    pub fn table(&self) -> &Table<Row>
+        ensures { result.now ≡ self.now }
+    {
+        &self.table
+    }
+
+    /// A site that holds this table.
+    pub fn of_table(alloc: Global, table: Table<Row>) -> Replica
+        requires { IsValidTable table }
+        ensures { result ≡ table }
+    {
+        Replica { table, alloc }
+    }
+
     /// Accepts the table that state bytes were read as, or refuses them for what reading them came
     /// to.
     fn take_table(&mut self, read: Result<Table<Row>, Kind>) -> Result<(), Refusal>

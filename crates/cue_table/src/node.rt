@@ -144,7 +144,8 @@ impl<R: Narrow> Node<R> {
 
     /// The way along the branches.
     pub(crate) fn cursor(&self) -> Cursor<R>
-        ensures { spread (spans_left result) ≡ below self.now }
+        ensures all { spread (spans_left result) ≡ below self.now }
+        ensures begun { result.begun ≡ None }
     {
         Cursor {
             begun: None,

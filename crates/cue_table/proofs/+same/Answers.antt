@@ -24,7 +24,7 @@ node::Node::same-same_branches-requires g t c κs within =
 
 pub node::Node::same_branches-same_below-requires : goal.node::Node::same_branches-same_below-requires
 node::Node::same_branches-same_below-requires g t c κs within =
-    let all = ap children_size c.cursor.ensures in
+    let all = ap children_size c.cursor.ensures.all in
     (omega (arith, c.decreases, all), (within.0, within.1))
 
 pub node::Node::same_branches-same_children-requires : goal.node::Node::same_branches-same_children-requires

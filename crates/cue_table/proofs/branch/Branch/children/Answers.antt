@@ -6,4 +6,4 @@ use Rattle.cue_table.proofs.branch.Branch.children.Goals as goal
 pub new-requires : goal.new-requires
 new-requires g c =
     let P = IsKept g.R.Narrow.refuses g.R.Narrow.is_value in
-    subst (AreBranches P) (sym c.cursor.ensures) (tree_below P c.self.inside.node.now c.self.invariant)
+    subst (AreBranches P) (sym c.cursor.ensures.all) (tree_below P c.self.inside.node.now c.self.invariant)

@@ -5,8 +5,8 @@ use Rattle.cue_table.specs.Inner.View.{branches, run_branches}
 use Rattle.cue_table.proofs.Ways.{spread_place, below_joined}
 use Rattle.cue_table.proofs.node.Node.cursor.Goals as goal
 
-pub returns : goal.returns
-returns g c =
+pub returns-clause-all : goal.returns-clause-all
+returns-clause-all g c =
     spread_place c.deref.result.now c.runs_behind.result.now
     ∙ ap (λ cs. join (branches cs) (run_branches c.runs_behind.result.now)) c.deref.ensures.value
     ∙ ap (join (branches c.self.inside.children.items)) c.runs_behind.ensures
