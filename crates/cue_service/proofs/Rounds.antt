@@ -89,15 +89,16 @@ moves Page old new request response is a = nothing old new request response 200 
 moves OtherMethod old new request response is a = nothing old new request response 405 a.0 a.1 (omega arith)
 moves Unknown old new request response is a = nothing old new request response 404 a.0 a.1 (omega arith)
 
+moved_unanswered : (route : Route) (old new : Desk) (request : Request (List ℕ)) (response : Response) (code : ℕ) → IsUnanswered route old new → response.status ≡ code → code ≢ 204
+    → Moves old request response new
+moved_unanswered route old new request response code same is other = inr (inr (unanswered route old new same, not_acknowledged request response (λ e. other (sym is ∙ e))))
+
 pub moved : (old new : Desk) (request : Request (List ℕ)) (response : Response) → Answers old request response new → Moves old request response new
 moved old new request response answers = by answers.2
   where
-    other : 507 ≢ 204
-    other = omega arith
-
     by : AnswersAs answers.0 old request response new ⊎ (IsUnanswered answers.0 old new × (response.status ≡ 507)) → Moves old request response new
     by (inl told) = moves answers.0 old new request response answers.1 told
-    by (inr wanting) = inr (inr (unanswered answers.0 old new wanting.0, not_acknowledged request response (λ e. other (sym wanting.1 ∙ e))))
+    by (inr wanting) = moved_unanswered answers.0 old new request response 507 wanting.0 wanting.1 (omega arith)
 
 has_left : (xs ys : List Piece) (piece : Piece) → Has xs piece → Has (xs ++ ys) piece
 has_left [] ys piece has = absurd has
@@ -130,6 +131,22 @@ known_has accepted listed piece are known =
     let found = entry_has listed.given_up accepted kept.0 (entry_of piece) kept.1 kept.2 in
     subst (Has accepted) (sym (read_back found.0) ∙ ap piece_of found.2 ∙ read_back piece) found.1
 
+listed_taken : (accepted : List Piece) (piece : Piece) (listed : Listed) → AreListed (accepted ++ piece ∷ []) listed → IsListedOf accepted (piece ∷ []) listed
+listed_taken accepted piece listed are = (piece ∷ [], inl ([], refl, refl), λ one has. has_right accepted (piece ∷ []) one has, are)
+
+has_kept : (accepted : List Piece) (piece : Piece) → Has accepted piece → (one : Piece) → Has (piece ∷ []) one → Has (accepted ++ []) one
+has_kept accepted piece has one (inl is) = has_left accepted [] one (subst (Has accepted) is has)
+has_kept accepted piece has one (inr never) = absurd never
+
+listed_as_before : (accepted : List Piece) (listed : Listed) → AreListed accepted listed → AreListed (accepted ++ []) listed
+listed_as_before accepted listed are = subst (λ (l : List Piece). AreListed l listed) (sym (append-nil accepted)) are
+
+listed_known : (accepted : List Piece) (piece : Piece) (listed : Listed) → Has accepted piece → AreListed accepted listed → IsListedOf accepted (piece ∷ []) listed
+listed_known accepted piece listed has are = ([], inr refl, λ one found. has_kept accepted piece has one found, listed_as_before accepted listed are)
+
+listed_none : (accepted : List Piece) (listed : Listed) → AreListed accepted listed → IsListedOf accepted [] listed
+listed_none accepted listed are = ([], refl, λ one has. absurd has, listed_as_before accepted listed are)
+
 one_listed : (old new : Desk) (request : Request (List ℕ)) (response : Response) (accepted : List Piece) → Answers old request response new
     → AreListed accepted old.pieces → IsListedOf accepted (acknowledged_by (request, response)) new.pieces
 one_listed old new request response accepted answers before = by (moved old new request response answers)
@@ -137,22 +154,10 @@ one_listed old new request response accepted answers before = by (moved old new 
     P : List Piece → Type 0
     P acked = IsListedOf accepted acked new.pieces
 
-    none : AreListed accepted new.pieces → AreListed (accepted ++ []) new.pieces
-    none are = subst (λ (l : List Piece). AreListed l new.pieces) (sym (append-nil accepted)) are
-
-    known : (piece : Piece) → Has accepted piece → (other : Piece) → Has (piece ∷ []) other → Has (accepted ++ []) other
-    known piece has other (inl is) = has_left accepted [] other (subst (Has accepted) is has)
-    known piece has other (inr no) = absurd no
-
     by : Moves old request response new → P (acknowledged_by (request, response))
-    by (inl taken) = subst P (sym taken.2) (taken.0 ∷ [], inl ([], refl, refl), λ other has. has_right accepted (taken.0 ∷ []) other has, taken.1.listed accepted before)
-    by (inr (inl old_one)) = subst P (sym old_one.2) (
-      [],
-      inr refl,
-      λ other has. known old_one.0 (known_has accepted old.pieces old_one.0 before old_one.1.kept) other has,
-      none (subst (AreListed accepted) (sym old_one.1.same.pieces) before),
-    )
-    by (inr (inr same)) = subst P (sym same.1) ([], refl, λ other has. absurd has, none (listed_less old.pieces new.pieces same.0.pieces accepted before))
+    by (inl taken) = subst P (sym taken.2) (listed_taken accepted taken.0 new.pieces (taken.1.listed accepted before))
+    by (inr (inl known)) = subst P (sym known.2) (listed_known accepted known.0 new.pieces (known_has accepted old.pieces known.0 before known.1.kept) (subst (AreListed accepted) (sym known.1.same.pieces) before))
+    by (inr (inr same)) = subst P (sym same.1) (listed_none accepted new.pieces (listed_less old.pieces new.pieces same.0.pieces accepted before))
 
 pub listed_still : {D : Type 0} (old called : Site D) (calls : List Call) (accepted : List Piece) → AreListed accepted old.desk.pieces → Chain AnswersAt old calls called
     → IsListedOf accepted (acknowledged calls) called.desk.pieces

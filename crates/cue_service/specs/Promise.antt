@@ -30,8 +30,8 @@ module _ {D : Type 0} (seen : D → List ℕ) (may_leave : D → List ℕ → Ty
       → IsConsistent seen may_leave old on_disk pieces → Chain AnswersAt old calls called
       → IsConsistent seen may_leave called on_disk (pieces ++ acknowledged calls)
 
-  -- It lists those of its start, and behind them, once each, those that were acknowledged and not known:
-  -- each that was acknowledged is among them.
+  -- It lists what it did, and behind that some of those acknowledged, in their order. Each that was
+  -- acknowledged is listed.
   abbrev pub AreListedStill : Type 0
   AreListedStill =
       (old called : Site D) (calls : List Call) (accepted : List Piece)
