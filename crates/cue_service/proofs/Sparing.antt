@@ -1,5 +1,5 @@
 -- What a desk is after older pieces were given up.
-use Rattle.std.proofs.Common.{◌≡◌, ℕ, List, ◌∷◌, [], ◌++◌, sym, ap, ◌∙◌, subst, refl}
+use Rattle.std.proofs.Common.{◌≡◌, ℕ, List, ◌∷◌, [], ◌++◌, sym, ap, ◌∙◌, subst}
 use Rattle.cue_lattice.specs.World.{Piece, piece_refuses}
 use Rattle.cue_replica.specs.Language.{Table, language}
 use Rattle.cue_replica.specs.Replica.{Adds}
