@@ -8,8 +8,8 @@ use sqlite_disk::{Disk, Files};
 use sqlite_std_file::{FileFrom, OpenError, Unknown, open};
 use std::alloc::Global;
 use std::io::{ErrorKind, Read};
-use std::{fs, io};
 use std::random::RandomSource;
+use std::{fs, io};
 
 /// The files that a site is kept in, of which the longer journal grows.
 type File = FileFrom<Unknown>;
@@ -148,7 +148,15 @@ pub fn open_site<L: Log>(
         Journal::new(spare.disk, spare.end),
     );
     let standing = standing(alloc, words)?;
-    Ok(Site::new(alloc, files, snapshot, board, token, standing, run_number(rt)?))
+    Ok(Site::new(
+        alloc,
+        files,
+        snapshot,
+        board,
+        token,
+        standing,
+        run_number(rt)?,
+    ))
 }
 
 /// A number for this run, which no other has that began at another moment.

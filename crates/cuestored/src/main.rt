@@ -8,12 +8,13 @@ use crate::files::{open_site, token_in};
 use anyhow::Result;
 use clap::error::Error;
 use cue_http::{Ended, serve};
-use cue_service::Shown;
+use cue_service::{Shown, Token};
 use cue_settings::{Stop, Words, command, may_listen, words_of};
 use log::sink::Console;
-use log::{Level, Logged, error, info};
+use log::{Level, Log, Logged, error, info};
 use mio::net::TcpListener;
 use std::env;
+use std::net::SocketAddr;
 use std::process::ExitCode;
 
 /// Serves until a round does not stand.
@@ -27,15 +28,26 @@ fn run(rt: &HostRuntime, words: &Words) -> Result<()> {
     if !may_listen(token.is_some(), listen.ip().is_loopback()) {
         return Err(Stop::OpenToAll.into());
     }
+    serve_at(rt, &log, words, listen, token)
+}
+
+/// Opens the site, and serves at an address until a round does not stand.
+fn serve_at<L: Log>(
+    rt: &HostRuntime,
+    log: &L,
+    words: &Words,
+    listen: SocketAddr,
+    token: Option<Token>,
+) -> Result<()> {
     let sources = words.sources(rt)?;
-    let site = open_site(rt, &log, words, token)?;
+    let site = open_site(rt, log, words, token)?;
     let listener = match TcpListener::bind(rt, listen) {
         Ok(listener) => listener,
         Err(error) => return Err(Stop::system(rt.alloc(), "listen on", words.listen, error).into()),
     };
     let address = listener.local_addr()?;
     info!(log; "listening on http://{address}");
-    match serve(rt, &log, listener, words.bounds(), &sources, site, u64::MAX) {
+    match serve(rt, log, listener, words.bounds(), &sources, site, u64::MAX) {
         Ok(()) => Ok(()),
         Err(ended) => Err(stop_of(rt, words, ended)?.into()),
     }
