@@ -5,7 +5,7 @@ use std::error::Error;
 use std::fmt;
 
 /// Memory ran out: a growth was refused, or would be of 2^64 bytes and more, and no other fault had
-/// been found before. There is no other way to one.
+/// been found before. It is made of the error of an allocation, or of counts beyond 64 bits.
 #[derive(Clone, Copy, Debug, PartialEq, Eq, Hash)]
 pub struct Memory {
     _refused: (),
