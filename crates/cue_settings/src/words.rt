@@ -2,6 +2,7 @@ ghost use Rattle.std.specs.Prelude.{◌≡◌};
 
 use crate::stop::Stop;
 use anyhow::Result;
+use clap::builder::ValueParser;
 use clap::{Arg, ArgAction, ArgMatches, Command, value_parser};
 use cue_http::{Bounds, Source};
 use http_server::Config;
@@ -45,7 +46,11 @@ pub fn command<'a>(alloc: Global) -> Result<Command<'a>, AllocError> {
     Command::new(alloc, "cuestored")
         .version("0.1.0")
         .about("A site of the configuration store that stays up, over HTTP")
-        .arg(value(alloc, "data", "DIR", "The folder of the journal").required(true))?
+        .arg(
+            value(alloc, "data", "DIR", "The folder of the journal")
+                .value_parser(ValueParser::NonEmptyString)
+                .required(true),
+        )?
         .arg(value(alloc, "listen", "ADDRESS:PORT", "Where to listen").default_value(
             "127.0.0.1:8420",
         ))?
@@ -114,10 +119,18 @@ pub fn words_of<'a>(alloc: Global, matches: &ArgMatches<'a>) -> Result<Words<'a>
     })
 }
 
+/// The first address that a name and a port have.
+fn looked_up(rt: &HostRuntime, name: &str) -> Result<Option<SocketAddr>> {
+    match name.to_socket_addrs(rt) {
+        Ok(mut addresses) => Ok(addresses.next()),
+        Err(error) => Err(Stop::system(rt.alloc(), "look up", name, error).into()),
+    }
+}
+
 impl<'a> Words<'a> {
     /// The address to listen on.
     pub fn listen(&self, rt: &HostRuntime) -> Result<SocketAddr> {
-        match self.listen.to_socket_addrs(rt)?.next() {
+        match looked_up(rt, self.listen)? {
             Some(address) => Ok(address),
             None => Err(Stop::Listen.into()),
         }
@@ -131,7 +144,7 @@ impl<'a> Words<'a> {
                 return Err(Stop::Peer.into());
             };
             let host = host.strip_suffix("/").unwrap_or(host);
-            match host.to_socket_addrs(rt)?.next() {
+            match looked_up(rt, host)? {
                 Some(at) => sources.push(Source { at })?,
                 None => return Err(Stop::Peer.into()),
             }
