@@ -1,4 +1,4 @@
-ghost use Rattle.std.specs.Prelude.{◌≡◌, ◌≤◌, [], None};
+ghost use Rattle.std.specs.Prelude.{◌≡◌, ◌≤◌, ◌⊎◌, [], None, IfSome};
 ghost use Rattle.std.specs.Duration.{as_nanos};
 
 use crate::question::{Answer, Course, Question, Unasked, Wanted};
@@ -102,7 +102,9 @@ impl Asked {
 
     /// What is asked for: the pieces behind the place that is remembered, or the state, unless it is
     /// the one that was taken last, or the site's own.
-    fn wanted<'a>(&'a self, own: &'a Option<HeaderValue>) -> Wanted<'a> {
+    fn wanted<'a>(&'a self, own: &'a Option<HeaderValue>) -> Wanted<'a>
+        ensures { IfSome self.now.cursor (λ cursor. result ≡ Wanted.Pieces cursor) }
+    {
         match (self.cursor, own) {
             (Some(cursor), _) => Wanted::Pieces(cursor),
             (None, Some(own)) => Wanted::State(own.as_bytes()),
@@ -187,7 +189,11 @@ impl Asked {
         now: Instant,
         bounds: &Bounds,
         service: &mut S,
-    ) {
+    )
+        ensures pause { as_nanos bounds.now.every ≤ as_nanos self.new.pause }
+        ensures tag { self.new.tag ≡ self.old.tag }
+        ensures cursor { self.new.cursor ≡ self.old.cursor }
+    {
         self.next = later(now, drawn(rt, self.pause));
         self.pause = longer(self.pause, bounds.every);
         service.hear(News::Failed(self.number));
@@ -197,7 +203,8 @@ impl Asked {
 /// The pause behind a further failure: twice as long, up to a bound, and never shorter than that
 /// behind an answer.
 fn longer(pause: Duration, every: Duration) -> Duration
-    ensures { as_nanos every ≤ as_nanos result }
+    ensures least { as_nanos every ≤ as_nanos result }
+    ensures most { (result ≡ every) ⊎ (as_nanos result ≤ 60_000_000_000) }
 {
     let twice = pause.saturating_mul(2).min(Duration::from_secs(MOST_PAUSE));
     if twice < every { every } else { twice }

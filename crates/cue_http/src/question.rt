@@ -287,6 +287,8 @@ impl Question {
             let Ok(progress) = self.client.read(rest, &mut spans) else {
                 return Err(ErrorKind::InvalidData.into());
             };
+            // Also where more has to come, as within the line that has the size of a chunk.
+            used += progress.consumed;
             match progress.event {
                 Event::Head(head) => {
                     self.code = head.code;
@@ -309,7 +311,6 @@ impl Question {
                 Event::Informational(_) => {}
                 _ => break,
             }
-            used += progress.consumed;
         }
         if used > 0 {
             let rest = match self.input.get(used..) {

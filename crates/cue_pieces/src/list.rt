@@ -185,8 +185,8 @@ impl Pieces {
     /// Gives up the oldest as long as they take too many bytes.
     pub fn trim(&mut self)
         ensures gives_up { GivesUp self.old self.new }
-        ensures needed { GivesUpBeyond MOST_BYTES self.old self.new }
-        ensures bound { weight self.new.kept ≤ MOST_BYTES }
+        ensures needed { GivesUpBeyond 16777216 self.old self.new }
+        ensures bound { weight self.new.kept ≤ 16777216 }
     {
         self.shrink_to(MOST_BYTES);
     }

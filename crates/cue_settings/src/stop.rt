@@ -1,6 +1,6 @@
-ghost use Rattle.std.specs.Prelude.{◌≡◌, ◌≢◌};
+ghost use Rattle.std.specs.Prelude.{◌≡◌, ◌≢◌, ◌⊎◌};
 ghost use Rattle.cue_lattice.specs.declared.refusal.Kind.TheVariants as kinds;
-ghost use Rattle.cue_settings.specs.Stops.{IsDamage};
+ghost use Rattle.cue_settings.specs.Stops.{IsDamage, IsSystem};
 
 use cue_lattice::{Kind, Refusal};
 use std::alloc::Global;
@@ -48,7 +48,9 @@ impl Stop {
     }
 
     /// An operation of the system on a file that failed.
-    pub fn system(alloc: Global, operation: &'static str, file: &str, error: io::Error) -> Stop {
+    pub fn system(alloc: Global, operation: &'static str, file: &str, error: io::Error) -> Stop
+        ensures { (result ≡ Stop.OutOfMemory) ⊎ IsSystem operation error result }
+    {
         match String::from_str(alloc, file) {
             Ok(file) => Stop::System {
                 operation,

@@ -1,4 +1,5 @@
-ghost use Rattle.std.specs.Prelude.{◌≡◌};
+ghost use Rattle.std.specs.Prelude.{◌≡◌, ◌*◌};
+ghost use Rattle.std.specs.Duration.{as_nanos};
 
 use crate::stop::Stop;
 use anyhow::Result;
@@ -156,8 +157,10 @@ impl<'a> Words<'a> {
     pub fn bounds(&self) -> Bounds
         ensures most { result.most ≡ self.now.most }
         ensures waiting { result.waiting ≡ self.now.waiting }
-        ensures body { result.config.max_body_len ≡ MOST_BODY }
-        ensures pending { result.config.max_pending ≡ MOST_PENDING }
+        ensures body { result.config.max_body_len ≡ 67_108_864 }
+        ensures pending { result.config.max_pending ≡ 262_144 }
+        ensures idle { as_nanos result.idle ≡ self.now.idle * 1_000_000_000 }
+        ensures every { as_nanos result.every ≡ self.now.every * 1_000_000_000 }
     {
         let config = Config {
             max_body_len: MOST_BODY,

@@ -97,25 +97,35 @@ fn a_known_piece_changes_nothing(rt: HostRuntime) -> Result<(), Fail> {
     Ok(())
 }
 
-/// Whether a site whose journal begins with a snapshot of so many bytes writes one once it has more
-/// than 1 MiB.
-fn condenses(alloc: Global, snapshot: usize) -> Result<bool, Fail> {
+/// A site whose journal begins with a snapshot of so many bytes.
+fn site_behind(alloc: Global, snapshot: usize) -> Site<Memory> {
     let files = Pair::new(
         Journal::new(Memory::new(alloc), 0),
         Journal::new(Memory::new(alloc), 0),
     );
     let standing = Standing::new(alloc, Vec::new(alloc));
-    let mut site = Site::new(alloc, files, snapshot, Replica::new(alloc), None, standing, RUN);
-    let mut text = Vec::from_slice(alloc, b"port: 443 // 0")?;
-    text.resize(800_000, b'x')?;
-    for number in [b'1', b'2'] {
-        text[13] = number;
-        let request = Request::builder(alloc)
-            .method("POST")
-            .uri("/fragments")
-            .body(Bytes::from_vec(Vec::from_slice(alloc, &text)?)?)?;
-        site.call(&request, &mut Response::new(alloc))?;
-    }
+    Site::new(alloc, files, snapshot, Replica::new(alloc), None, standing, RUN)
+}
+
+/// Hands a site a text of 800,000 bytes, most of which are a comment.
+fn post_long(alloc: Global, site: &mut Site<Memory>, text: &[u8]) -> Result<(), Fail> {
+    let mut bytes = Vec::from_slice(alloc, text)?;
+    bytes.resize(800_000, b'x')?;
+    let request = Request::builder(alloc)
+        .method("POST")
+        .uri("/fragments")
+        .body(Bytes::from_vec(bytes)?)?;
+    let mut response = Response::new(alloc);
+    site.call(&request, &mut response)?;
+    Ok(())
+}
+
+/// Whether a site whose journal begins with a snapshot of so many bytes writes one once it has more
+/// than 1 MiB.
+fn condenses(alloc: Global, snapshot: usize) -> Result<bool, Fail> {
+    let mut site = site_behind(alloc, snapshot);
+    post_long(alloc, &mut site, b"port: 443 // 1")?;
+    post_long(alloc, &mut site, b"port: 443 // 2")?;
     let stands = site.settle();
     let text = text_at(alloc, &mut site, "/metrics")?;
     Ok(stands && text.windows(WRITTEN.len()).any(|part| part == WRITTEN))
@@ -177,7 +187,7 @@ fn a_word_is_wanted(rt: HostRuntime) -> Result<(), Fail> {
 /// The state of a site that has taken a text.
 fn state_of(alloc: Global, text: &str) -> Result<Vec<u8>, Fail> {
     let mut site = Replica::new(alloc);
-    let _ = site.submit(text);
+    site.submit(text)?;
     Ok(site.state(alloc)?)
 }
 
