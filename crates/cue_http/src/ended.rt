@@ -5,7 +5,7 @@ use std::{fmt, io};
 /// Why serving ended.
 #[derive(Clone, Copy, Debug)]
 pub enum Ended {
-    /// A round does not stand, and why.
+    /// A round failed to settle, and why.
     Unsettled(io::Error),
     /// This call of the system failed.
     System(&'static str, io::Error),

@@ -27,7 +27,7 @@ pub enum News {
     Answered(usize),
     /// The source with this number could not be asked, or gave no answer.
     Failed(usize),
-    /// What is remembered of the source with this number can't stand in a question, and is forgotten.
+    /// No request can carry the tag of the source with this number, so it is forgotten.
     Forgotten(usize),
 }
 
@@ -51,7 +51,7 @@ pub trait Gathers {
     /// The tag of the state that is had, where memory suffices for it.
     fn tag(&mut self) -> Option<HeaderValue>;
 
-    /// Why the last `settle` did not stand.
+    /// Why the last `settle` failed.
     fn fault(&mut self) -> io::Error;
 
     /// Hears what happened.

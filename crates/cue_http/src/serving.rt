@@ -60,7 +60,7 @@ struct Loop<S> {
 ///
 /// # Errors
 ///
-/// The call of the system that failed, or why a round does not stand. Its clients are dropped
+/// The call of the system that failed, or why a round failed to settle. Its clients are dropped
 /// unanswered.
 pub fn serve<H, S, L>(
     rt: &H,
@@ -113,9 +113,9 @@ where
         let now = called("clock_gettime", Instant::now(rt))?;
         let seconds = now.saturating_duration_since(start).as_secs();
         state.service.inner.hear(News::Now(seconds));
-        let stands = state.round(rt, &poll, &listener, now);
+        let settled = state.round(rt, &poll, &listener, now);
         state.service.inner.report(log);
-        stands?;
+        settled?;
     }
     Ok(())
 }

@@ -65,7 +65,7 @@ pub record IsKnown (piece : Piece) (old new : Desk) : Type 0 where
   pub kept : Contains old.pieces.kept (entry_of piece)
   pub same : IsSame old new
 
--- nothing changes but counts, and that older pieces may be given up, to which memory is owed
+-- nothing changes but counts, and that older pieces may be given up, to free memory
 pub record IsSpared (old new : Desk) : Type 0 where
   pub table : new.board ≡ old.board
   pub waits : batch_bytes new.batch ≡ batch_bytes old.batch
@@ -85,7 +85,7 @@ IsAsked question table request response =
     × (response.status ≡ status_of question answer.status)
     × (response.body.items ≡ answer.bytes.items))
 
--- what is handed in is accepted, or known, and only then is the status 204, or it is refused
+-- a piece that is sent is accepted, or known, and only then is the status 204, or it is refused
 abbrev pub IsHanded : Hand → Desk → Request (List ℕ) → Response → Desk → Type 0
 IsHanded hand old request response new =
     ((IsTaken (handed hand (body_of request)) old new ⊎ IsKnown (handed hand (body_of request)) old new)
@@ -103,12 +103,12 @@ AnswersAs Page old request response new = IsSame old new × (response.status ≡
 AnswersAs OtherMethod old request response new = IsSame old new × (response.status ≡ 405)
 AnswersAs Unknown old request response new = IsSame old new × (response.status ≡ 404)
 
--- what is handed in may have older pieces given up, and no other request does
+-- for a piece that is sent older pieces may be given up, and for no other request
 abbrev pub IsUnanswered : Route → Desk → Desk → Type 0
 IsUnanswered (Take hand) old new = IsSpared old new
 IsUnanswered route old new = IsSame old new
 
--- a request is answered by what it asks for, or memory was wanting and nothing changes
+-- A request is answered by what it asks for. Or memory ran out, and nothing changes but that.
 abbrev pub Answers : Desk → Request (List ℕ) → Response → Desk → Type 0
 Answers old request response new =
     (route : Route) × IsRoute route request

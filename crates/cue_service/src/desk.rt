@@ -207,8 +207,8 @@ impl Desk {
         }
     }
 
-    /// Accepts a piece, unless it is known. Where memory is wanting older pieces are given up, and it
-    /// is tried once more.
+    /// Accepts a piece, unless it is known. If memory runs out, older pieces are given up, and it is
+    /// tried once more.
     ///
     /// # Errors
     ///

@@ -86,7 +86,7 @@ fn peer_line(text: &mut String, source: &SourceStanding, now: u64) -> Result<(),
     Ok(())
 }
 
-/// Adds a text so that a browser shows it as it stands, and each hidden character by its number.
+/// Adds a text so that a browser shows it as it is, and each hidden character by its number.
 fn escape(page: &mut String, bytes: &[u8]) -> Result<(), Memory> {
     let Ok(text) = str::from_utf8(bytes) else {
         return Ok(());

@@ -45,7 +45,7 @@ fn on_file<T>(
     }
 }
 
-/// The folder that a file or folder stands in.
+/// The folder that a file or folder lies in.
 fn above(path: &str) -> &str {
     match path.trim_end_matches('/').rsplit_once('/') {
         Some(("", _)) => "/",

@@ -31,7 +31,7 @@ fn run(rt: &HostRuntime, words: &Words) -> Result<()> {
     serve_at(rt, &log, words, listen, token)
 }
 
-/// Opens the site, and serves at an address until a round does not stand.
+/// Opens the site, and serves at an address until a round fails to settle.
 fn serve_at<L: Log>(
     rt: &HostRuntime,
     log: &L,

@@ -80,7 +80,7 @@ const TOLD: &[Row] = &[
     ("GET /export", b"", 409, b"conflict port no value\n"),
 ];
 
-/// What a site answers that is handed one piece twice: it is known, and not listed again.
+/// What a site answers to one piece that is sent twice: it is known, and not listed again.
 const TWICE: &[Row] = &[
     ("POST /fragments", b"port: 443", 204, b""),
     ("GET /pieces?after=7-1", b"", 200, b""),
@@ -107,7 +107,7 @@ fn site_behind(alloc: Global, snapshot: usize) -> Site<Memory> {
     Site::new(alloc, files, snapshot, Replica::new(alloc), None, standing, RUN)
 }
 
-/// Hands a site a text of 800,000 bytes, most of which are a comment.
+/// Sends a site a text of 800,000 bytes, most of which are a comment.
 fn post_long(alloc: Global, site: &mut Site<Memory>, text: &[u8]) -> Result<(), Fail> {
     let mut bytes = Vec::from_slice(alloc, text)?;
     bytes.resize(800_000, b'x')?;
