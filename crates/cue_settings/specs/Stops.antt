@@ -11,5 +11,5 @@ IsDamage other = ⊥
 
 -- this operation of the system failed, with this error
 abbrev pub IsSystem : List ℕ → Error → Stop → Type 0
-IsSystem operation error (stops.System said file why) = (said ≡ operation) × (why ≡ error)
+IsSystem operation error (stops.System said file why) = (said.now ≡ operation) × (why ≡ error)
 IsSystem operation error other = ⊥

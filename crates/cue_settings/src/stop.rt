@@ -49,7 +49,7 @@ impl Stop {
 
     /// An operation of the system on a file that failed.
     pub fn system(alloc: Global, operation: &'static str, file: &str, error: io::Error) -> Stop
-        ensures { (result ≡ Stop.OutOfMemory) ⊎ IsSystem operation error result }
+        ensures { (result ≡ Stop.OutOfMemory) ⊎ IsSystem operation.now error result }
     {
         match String::from_str(alloc, file) {
             Ok(file) => Stop::System {
