@@ -1,8 +1,14 @@
 # Completions for bash: `source bin/completions/cuestore.bash`
 _cuestore() {
   local words='export print report state merge serve push loop'
+  local tools='check why explain at diff add fmt from-json to carry git-setup help'
   if [ "$COMP_CWORD" -eq 1 ]; then
+    if [ "${COMP_WORDS[0]}" = cuestore ]; then words="$words $tools"; fi
     mapfile -t COMPREPLY < <(compgen -W "$words" -- "${COMP_WORDS[1]}")
+  elif [ "$COMP_CWORD" -eq 2 ] && [ "${COMP_WORDS[1]}" = to ]; then
+    mapfile -t COMPREPLY < <(compgen -W 'yaml toml env properties' -- "${COMP_WORDS[2]}")
+  elif [ "$COMP_CWORD" -eq 2 ] && [ "${COMP_WORDS[1]}" = help ]; then
+    mapfile -t COMPREPLY < <(compgen -W "$words $tools" -- "${COMP_WORDS[2]}")
   else
     mapfile -t COMPREPLY < <(compgen -f -X '!*.@(cue|state)' -- "${COMP_WORDS[COMP_CWORD]}"
       compgen -d -- "${COMP_WORDS[COMP_CWORD]}")

@@ -14,6 +14,8 @@ use Rattle.cue_answer.specs.declared.question.Status.{Status}
 use Rattle.cue_answer.specs.declared.question.Status.TheVariants as statuses
 use Rattle.cue_answer.specs.declared.question.Question.{Question}
 use Rattle.cue_answer.specs.declared.question.Question.TheVariants as questions
+use Rattle.cue_answer.specs.declared.question.TextQuestion.{TextQuestion}
+use Rattle.cue_answer.specs.declared.question.TextQuestion.TheVariants as texts
 use Rattle.cue_answer.specs.declared.told.Answer.{Answer}
 
 -- the numbers of the statuses
@@ -37,6 +39,12 @@ report_status [] [] = statuses.Done
 -- a line for each conflict, and then one for each gap
 abbrev pub report_lines : List Conflict → List Gap → List ℕ
 report_lines conflicts gaps = flat_map conflict_line conflicts ++ flat_map gap_line gaps
+
+-- the questions that are answered by a text
+abbrev pub of_text : TextQuestion → Question
+of_text texts.Export = questions.Export
+of_text texts.Print = questions.Print
+of_text texts.Report = questions.Report
 
 -- The answer to a question about the table: these bytes, with this status.
 abbrev pub IsAnswer : Question → Table → List ℕ → Status → Type 0

@@ -1,5 +1,5 @@
-ghost use Rattle.std.specs.Prelude.{◌≡◌};
-ghost use Rattle.cue_answer.specs.Answers.{code_of};
+ghost use Rattle.std.specs.Prelude.{◌≡◌, IfSome, IfNone};
+ghost use Rattle.cue_answer.specs.Answers.{code_of, of_text};
 
 /// What is asked of a site.
 #[derive(Clone, Copy, Debug, PartialEq, Eq)]
@@ -12,6 +12,32 @@ pub enum Question {
     Report,
     /// The state bytes.
     State,
+}
+
+/// A question whose answer is a text.
+#[derive(Clone, Copy, Debug, PartialEq, Eq)]
+pub enum TextQuestion {
+    /// The JSON, or the conflict lines, or the incomplete lines.
+    Export,
+    /// The canonical text.
+    Print,
+    /// The conflict lines, and then the incomplete lines.
+    Report,
+}
+
+impl Question {
+    /// The same question, where its answer is a text: state bytes are none.
+    pub fn as_text(self) -> Option<TextQuestion>
+        ensures text { IfSome result (λ question. of_text question ≡ self) }
+        ensures state { IfNone result (self ≡ Question.State) }
+    {
+        match self {
+            Question::Export => Some(TextQuestion::Export),
+            Question::Print => Some(TextQuestion::Print),
+            Question::Report => Some(TextQuestion::Report),
+            Question::State => None,
+        }
+    }
 }
 
 /// How an answer ends the run that prints it. Refusals and failing devices have the numbers between

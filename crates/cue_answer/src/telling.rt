@@ -1,9 +1,9 @@
 //! Answers that are written while they are made.
-ghost use Rattle.std.specs.Prelude.{◌≡◌, ◌≢◌, IfOk, OnErr};
-ghost use Rattle.cue_answer.specs.Answers.{status_of, BeginsAnswer, TellsAnswer};
+ghost use Rattle.std.specs.Prelude.{◌≡◌, IfOk, OnErr};
+ghost use Rattle.cue_answer.specs.Answers.{of_text, status_of, BeginsAnswer, TellsAnswer};
 ghost use Rattle.cue_answer.specs.Inner.{lines_status};
 
-use crate::question::{Question, Status};
+use crate::question::{Status, TextQuestion};
 use cue_device::TextSink;
 use cue_replica::{ExportKind, Replica};
 use std::alloc::Global;
@@ -16,25 +16,22 @@ use std::alloc::Global;
 /// Where no more is taken, or memory ran out; then the front of the answer was taken.
 pub fn tell_answer<S: TextSink>(
     alloc: Global,
-    question: Question,
+    question: TextQuestion,
     site: &Replica,
     out: &mut S,
 ) -> Result<Status, S::Halt>
-    // State bytes are no text.
-    requires text { question ≢ Question.State }
-    ensures told { IfOk result (λ status. TellsAnswer question site.now status
+    ensures told { IfOk result (λ status. TellsAnswer (of_text question) site.now status
         (S.taken out.old) (S.taken out.new)) }
     ensures begun { OnErr result
-        (BeginsAnswer question site.now (S.taken out.old) (S.taken out.new)) }
+        (BeginsAnswer (of_text question) site.now (S.taken out.old) (S.taken out.new)) }
 {
     match question {
-        Question::Export => Ok(status_by(site.tell_export(alloc, out)?)),
-        Question::Print => {
+        TextQuestion::Export => Ok(status_by(site.tell_export(alloc, out)?)),
+        TextQuestion::Print => {
             site.tell_printed(alloc, out)?;
             Ok(Status::Done)
         }
-        Question::Report => tell_report(alloc, site, out),
-        Question::State => unreachable!(),
+        TextQuestion::Report => tell_report(alloc, site, out),
     }
 }
 

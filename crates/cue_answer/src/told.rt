@@ -1,7 +1,7 @@
-ghost use Rattle.std.specs.Prelude.{◌≡◌, ◌≢◌, ◌++◌, IfOk};
-ghost use Rattle.cue_answer.specs.Answers.{line_end, Says, Tells};
+ghost use Rattle.std.specs.Prelude.{◌++◌, IfOk};
+ghost use Rattle.cue_answer.specs.Answers.{line_end, of_text, Says, Tells};
 
-use crate::question::{Question, Status};
+use crate::question::{Question, Status, TextQuestion};
 use crate::telling::tell_answer;
 use cue_replica::{Memory, Replica};
 use std::alloc::Global;
@@ -21,12 +21,12 @@ pub struct Answer {
 pub fn answer_to(alloc: Global, question: Question, site: &Replica) -> Result<Answer, Memory>
     ensures tells { IfOk result (Tells question site.now) }
 {
-    match question {
-        Question::State => Ok(Answer {
+    match question.as_text() {
+        None => Ok(Answer {
             bytes: site.state(alloc)?,
             status: Status::Done,
         }),
-        _ => text_to(alloc, question, site),
+        Some(question) => text_to(alloc, question, site),
     }
 }
 
@@ -46,9 +46,8 @@ pub fn printed(question: Question, mut answer: Answer) -> Result<Answer, Memory>
 }
 
 /// What the site answers in a text.
-fn text_to(alloc: Global, question: Question, site: &Replica) -> Result<Answer, Memory>
-    requires text { question ≢ Question.State }
-    ensures tells { IfOk result (Tells question site.now) }
+fn text_to(alloc: Global, question: TextQuestion, site: &Replica) -> Result<Answer, Memory>
+    ensures tells { IfOk result (Tells (of_text question) site.now) }
 {
     let mut text = String::new(alloc);
     let status = tell_answer(alloc, question, site, &mut text)?;

@@ -1,5 +1,5 @@
 -- Rows read one after another, by their bytes.
-use Rattle.std.proofs.Common.{◌≡◌, ℕ, ◌-◌, ◌<◌, ◌≤◌, List, [], ◌∷◌, ◌++◌, append_assoc, length, map, take, drop, Some, ⊎_elim, refl, sym, ap, subst, ◌∙◌, arith}
+use Rattle.std.proofs.Common.{◌≡◌, ℕ, ◌-◌, ◌<◌, ◌≤◌, List, [], ◌∷◌, ◌++◌, append_assoc, length, map, take, drop, Option, Some, ⊎_elim, refl, sym, ap, subst, ◌∙◌, arith}
 use Rattle.std.specs.List.{flat_map}
 use Rattle.std.proofs.lemmas.List.{append-nil, append_cancel_right, length-append, length-take, nil_from_length, take-append-drop}
 use Rattle.cue_lattice.specs.declared.refusal.Kind.{Kind}
@@ -15,7 +15,7 @@ use Rattle.cue_codec.specs.Known.{known_with, rows_with, IsKnown, unknown, AreRe
 use Rattle.cue_codec.specs.Inner.Known.{AreDrafted}
 use Rattle.cue_codec.specs.Reading.{Begins, BeginsNone, IsRefused}
 use Rattle.cue_codec.specs.RowBytes.{row_bytes, IsStateRow}
-use Rattle.cue_codec.specs.Inner.Drafting.{RowsRead, entries_from, rows_bytes, IsDrafting, IsNext, NoneNext, BeginsNoRows}
+use Rattle.cue_codec.specs.Inner.Drafting.{RowsRead, entries_from, rows_bytes, rows_in, IsDrafting, IsNext, NoneNext, BeginsNoRows}
 use Rattle.cue_codec.specs.Inner.Pieces.{HasRows}
 use Rattle.cue_codec.proofs.Codes.{begins_more, same_fronts}
 use Rattle.cue_codec.proofs.KnownPlaces.{told_with}
@@ -78,15 +78,17 @@ module _ (version : Version) (count left : ℕ) (rows : List (Place × Row)) (in
     longer = ap (rows_bytes version new) listed ∙ (next_row bytes rest new place fixed row some begins is added).1;
   }
 
-  pub next_drafting : (bytes rest : List ℕ) (new : List (Place × Row)) (place : Place) (fixed : ℕ) (row : Row) (items after : List ℕ) → items ≡ indexes ++ fixed ∷ [] → after ≡ known_with known (length place) fixed → length after ≡ 65 → 0 < left
-      → Begins (IsStateRow version) (row_bytes version) (entry_at place fixed row) bytes rest → IsKnown known place → new ≡ rows ++ (place, row) ∷ [] → IsDrafting version count (left - 1) new items after place
-  next_drafting bytes rest new place fixed row items after listed same deep some begins is added = record {
-    read = subst (λ t. AreRead version (rows_bytes version new t) [] count (left - 1) new t after) (sym listed)
-        (subst (AreRead version (rows_bytes version new (indexes ++ fixed ∷ [])) [] count (left - 1) new (indexes ++ fixed ∷ [])) (sym same) (next_row bytes rest new place fixed row some begins is added).0);
-    steps = begins.value.path;
-    placed = subst (λ k. IsKnown k place) (sym same) (known_next known place fixed is);
-    deep = deep;
-  }
+  pub next_drafting : (bytes rest : List ℕ) (new : Option (List (Place × Row))) (place : Place) (fixed : ℕ) (row : Row) (items after : List ℕ) → items ≡ indexes ++ fixed ∷ [] → after ≡ known_with known (length place) fixed → length after ≡ 65 → 0 < left
+      → Begins (IsStateRow version) (row_bytes version) (entry_at place fixed row) bytes rest → IsKnown known place → new ≡ Some (rows ++ (place, row) ∷ []) → IsDrafting version count (left - 1) new items after place
+  next_drafting bytes rest new place fixed row items after listed same deep some begins is added =
+      let more = ap rows_in added in record {
+        goes_on = added ∙ ap Some (sym more);
+        read = subst (λ t. AreRead version (rows_bytes version (rows_in new) t) [] count (left - 1) (rows_in new) t after) (sym listed)
+            (subst (AreRead version (rows_bytes version (rows_in new) (indexes ++ fixed ∷ [])) [] count (left - 1) (rows_in new) (indexes ++ fixed ∷ [])) (sym same) (next_row bytes rest (rows_in new) place fixed row some begins is more).0);
+        steps = begins.value.path;
+        placed = subst (λ k. IsKnown k place) (sym same) (known_next known place fixed is);
+        deep = deep;
+      }
 
   -- where a row is missing and none stands in front, or it doesn't stand behind the others
   pub next_missing : 0 < left → (bytes : List ℕ) → BeginsNone (IsStateRow version) (row_bytes version) bytes → NoneNext (record { version = version; count = count; left = left; bytes = rows_bytes version rows indexes }) bytes
@@ -110,22 +112,6 @@ module _ (version : Version) (count left : ℕ) (rows : List (Place × Row)) (in
   next_trailing none more some =
       let here = subst (λ n. AreRead version (rows_bytes version rows indexes ++ more) more count n rows indexes known) none (read_with more read) in
       rows_trailing version (rows_bytes version rows indexes ++ more) more count rows indexes known here some
-
--- no row was added: whichever row is looked for next, its place is made anew
-pub drafting_kept : (version : Version) (count left : ℕ) (rows new : List (Place × Row)) (indexes items known : List ℕ) (place : Place) → IsDrafting version count left rows indexes known place → new ≡ rows → items ≡ indexes → IsDrafting version count left new items known []
-drafting_kept version count left rows new indexes items known place is e f = record {
-  read = subst (λ t. AreRead version (rows_bytes version t items) [] count left t items known) (sym e)
-      (subst (λ t. AreRead version (rows_bytes version rows t) [] count left rows t known) (sym f) is.read);
-  steps = (tt, omega arith);
-  placed = refl;
-  deep = is.deep;
-}
-
--- so what contracts see of them is the same
-pub same_read : (version : Version) (count left : ℕ) (rows new : List (Place × Row)) (indexes items : List ℕ) (old : RowsRead) → record { version = version; count = count; left = left; bytes = rows_bytes version rows indexes } ≡ old → new ≡ rows → items ≡ indexes
-    → record { version = version; count = count; left = left; bytes = rows_bytes version new items } ≡ old
-same_read version count left rows new indexes items old is e f =
-    (λ i. record { version = version; count = count; left = left; bytes = rows_bytes version (e i) (f i) }) ∙ is
 
 -- where none is missing
 pub all_drafted : (version : Version) (count left : ℕ) (rows : List (Place × Row)) (indexes known : List ℕ) → left ≡ 0 → AreRead version (rows_bytes version rows indexes) [] count left rows indexes known → AreDrafted version (rows_bytes version rows indexes) count rows indexes

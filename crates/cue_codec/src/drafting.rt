@@ -1,12 +1,12 @@
 //! Rows read one after another, of which a table is made.
 
 ghost use Rattle.std.specs.Prelude.{◌≡◌, ◌<◌, ◌↔◌, ◌∷◌, ◌++◌, [], ℕ, List, IsTrue};
-ghost use Rattle.std.specs.Prelude.{IfOk, IfErr, OnErr};
+ghost use Rattle.std.specs.Prelude.{IfOk, IfErr, Some};
 ghost use Rattle.cue_lattice.specs.declared.refusal.Kind.TheVariants.{Memory as OutOfMemory};
 ghost use Rattle.cue_row.specs.Row.{Refuses, IsRow};
 ghost use Rattle.cue_table.specs.RowList.{BeginsNoTable};
 ghost use Rattle.cue_codec.specs.Decoding.{AreReadRows, NoRows};
-ghost use Rattle.cue_codec.specs.Inner.Drafting.{BeginsNoRows};
+ghost use Rattle.cue_codec.specs.Inner.Drafting.{BeginsNoRows, rows_in};
 ghost use Rattle.cue_codec.specs.Inner.Pieces.{HasNext, HasRows};
 ghost use Rattle.cue_codec.specs.Reading.{IsRefused};
 
@@ -40,7 +40,7 @@ pub struct Drafting {
 }
 
 impl Model for Drafting {
-    ghost use Rattle.cue_codec.specs.Inner.Drafting.{RowsRead, rows_bytes, IsDrafting};
+    ghost use Rattle.cue_codec.specs.Inner.Drafting.{RowsRead, rows_bytes, rows_in, IsDrafting};
 
     ghost Value = { RowsRead };
 
@@ -48,19 +48,20 @@ impl Model for Drafting {
       version = d.version;
       count = d.count;
       left = d.left;
-      bytes = rows_bytes d.version d.draft d.indexes.items;
+      bytes = rows_bytes d.version (rows_in d.draft) d.indexes.items;
     } };
 
     ghost invariant = { λ d. IsDrafting d.version d.count d.left d.draft d.indexes.items d.known
         d.place };
 }
 
-/// Adds a row behind those of a draft, which has none any more where it is refused.
+/// Adds a row behind those of a draft, which is of no further use where it is refused.
 fn append(draft: &mut Draft<Row>, place: &Place, row: Row) -> Result<(), Kind>
-    ensures ok { IfOk result (λ none. draft.new ≡ draft.old ++ (place.now, row) ∷ []) }
+    requires { draft.old ≡ Some (rows_in draft.old) }
+    ensures ok { IfOk result
+        (λ none. draft.new ≡ Some (rows_in draft.old ++ (place.now, row) ∷ [])) }
     ensures refused { IfErr result (λ kind. IsRefused kind
-        (BeginsNoTable Refuses IsRow (draft.old ++ (place.now, row) ∷ []))) }
-    ensures err { OnErr result (draft.new ≡ []) }
+        (BeginsNoTable Refuses IsRow (rows_in draft.old ++ (place.now, row) ∷ []))) }
 {
     match draft.append(place, row) {
         Ok(true) => Ok(()),
@@ -124,7 +125,8 @@ impl Drafting {
             return Err(Kind::Memory);
         };
         if let Err(kind) = append(&mut self.draft, &place, row) {
-            // The draft is gone, so all rows are missing.
+            // The draft is of no further use, so all rows are missing.
+            self.draft = Draft::new(self.alloc);
             self.left = self.count;
             self.indexes.clear();
             self.known = [0; 65];

@@ -1,6 +1,6 @@
 //! Answers that are written while they are made.
-ghost use Rattle.std.specs.Prelude.{◌≡◌, ◌≢◌, ◌⊎◌, IfOk, IfErr, Option, List, ℕ, true};
-ghost use Rattle.cue_answer.specs.Answers.{line_end as end_of};
+ghost use Rattle.std.specs.Prelude.{◌≡◌, ◌⊎◌, IfOk, IfErr, Option, List, ℕ, true};
+ghost use Rattle.cue_answer.specs.Answers.{line_end as end_of, of_text};
 ghost use Rattle.cue_program.specs.Outlets.{outlet_failed, outlet_inner, passed};
 ghost use Rattle.cue_program.specs.Runs.{IsAnswerAdded, IsAnswerCut};
 ghost use Rattle.cue_program.specs.Stops.{IsDevice, IsMemory};
@@ -8,7 +8,7 @@ ghost use Rattle.cue_program.specs.Stops.{IsDevice, IsMemory};
 use crate::outlet::Outlet;
 use crate::stop::Stop;
 use crate::writing::tell_state;
-use cue_answer::{Question, Status, TextSink, tell_answer};
+use cue_answer::{Question, Status, TextQuestion, TextSink, tell_answer};
 use cue_replica::{Memory, Replica};
 use std::alloc::Global;
 use std::io::Write;
@@ -56,27 +56,26 @@ pub fn tell<W: Write>(
     ensures cut { IfErr result
         (IsAnswerCut question site.now (passed W.contents out.old out.new)) }
 {
-    match question {
-        Question::State => {
+    match question.as_text() {
+        None => {
             tell_state(alloc, site, out)?;
             Ok(Status::Done)
         }
-        _ => tell_text(alloc, question, site, out),
+        Some(question) => tell_text(alloc, question, site, out),
     }
 }
 
 /// Writes what a site answers in a text.
 fn tell_text<W: Write>(
     alloc: Global,
-    question: Question,
+    question: TextQuestion,
     site: &Replica,
     out: &mut Outlet<W>,
 ) -> Result<Status, Stop>
-    requires text { question ≢ Question.State }
     ensures told { IfOk result
-        (IsAnswerAdded question site.now (passed W.contents out.old out.new)) }
+        (IsAnswerAdded (of_text question) site.now (passed W.contents out.old out.new)) }
     ensures cut { IfErr result
-        (IsAnswerCut question site.now (passed W.contents out.old out.new)) }
+        (IsAnswerCut (of_text question) site.now (passed W.contents out.old out.new)) }
 {
     match tell_answer(alloc, question, site, out) {
         Ok(status) => {
@@ -88,11 +87,11 @@ fn tell_text<W: Write>(
 }
 
 /// What a run prints behind an answer.
-fn line_end(question: Question, status: Status) -> &'static [u8]
-    ensures { result.now ≡ end_of question status }
+fn line_end(question: TextQuestion, status: Status) -> &'static [u8]
+    ensures { result.now ≡ end_of (of_text question) status }
 {
     match (question, status) {
-        (Question::Export, Status::Done) => b"\n",
+        (TextQuestion::Export, Status::Done) => b"\n",
         _ => b"",
     }
 }

@@ -1,11 +1,11 @@
 //! Rows in the order of their places, of which a table is made.
-ghost use Rattle.std.specs.Prelude.{◌≡◌, [], IfOk, IfSome, IfNone, OnErr};
+ghost use Rattle.std.specs.Prelude.{◌≡◌, [], Some, None, IfOk, IfSome, IfNone, OnErr};
 ghost use Rattle.cue_table.specs.Form.{IsKept, IsTable};
 ghost use Rattle.cue_table.specs.Inner.Drafts.{GoesOn};
 ghost use Rattle.cue_table.specs.Inner.Opened.{IsDraft};
 ghost use Rattle.cue_table.specs.RowList.{Appends};
 ghost use Rattle.cue_table.specs.Slots.{rows_of};
-ghost use Rattle.cue_table.specs.Tree.{Tree};
+ghost use Rattle.cue_table.specs.Tree.{Tree, empty};
 
 use crate::node::Node;
 use crate::open::{Open, close, lead_on, open_along, staying};
@@ -15,7 +15,8 @@ use std::alloc::Global;
 use std::marker::Model;
 use std::mem;
 
-/// Rows in the order of their places, of which a table is made. Contracts see the list of them.
+/// Rows in the order of their places, of which a table is made. Contracts see the list of them, or
+/// none once it was refused or memory ran out: such a draft refuses each row, and gives no table.
 #[derive(Drop)]
 pub struct Draft<R: Narrow> {
     alloc: Global,
@@ -23,18 +24,22 @@ pub struct Draft<R: Narrow> {
     above: Vec<Open<R>>,
     /// The node of the last row, below which nothing is.
     last: Node<R>,
+    /// Whether a row was refused, or memory ran out. Then no node is open.
+    is_refused: bool,
 }
 
 impl<R: Narrow> Model for Draft<R> {
-    ghost use Rattle.std.specs.Prelude.{List};
+    ghost use Rattle.std.specs.Prelude.{List, Option};
     ghost use Rattle.cue_table.specs.Slots.{Place};
 
-    ghost Value = { List (Place × R) };
+    ghost Value = { Option (List (Place × R)) };
 
     ghost use Rattle.cue_table.specs.Slots.{rows_of};
+    ghost use Rattle.cue_table.specs.Inner.Drafts.{unless_refused};
     ghost use Rattle.cue_table.specs.Inner.Opened.{closed};
 
-    ghost view = { λ draft. rows_of (closed draft.above.items draft.last) };
+    ghost view = { λ draft. unless_refused draft.is_refused
+        (rows_of (closed draft.above.items draft.last)) };
 
     ghost use Rattle.cue_table.specs.Form.{IsKept};
     ghost use Rattle.cue_table.specs.Inner.Opened.{IsDraft};
@@ -46,58 +51,77 @@ impl<R: Narrow> Model for Draft<R> {
 impl<R: Narrow> Draft<R> {
     /// No row. This takes no memory.
     pub fn new(alloc: Global) -> Draft<R>
-        ensures { result ≡ [] }
+        ensures { result ≡ Some [] }
     {
         Draft {
             alloc,
             above: Vec::new(alloc),
             last: Node::new(alloc),
+            is_refused: false,
         }
     }
 
-    /// Puts a row behind all others, or says that no table has rows that begin so, and keeps none of
-    /// them: where another row stands at the place or behind it, where the row refuses nothing, and
-    /// where a rest that is done with begins otherwise than in a table. However many rows there
-    /// are, this goes over the nodes of the last place and of this one alone, and compares such a
-    /// rest with the element before it. Where memory runs out, none of them is kept either.
+    /// Puts a row behind all others, or says that no table has rows that begin so: where another
+    /// row is at the place or behind it, where the row refuses nothing, and where a rest that ends
+    /// here begins otherwise than in a table. Then, and where memory runs out, the draft keeps no
+    /// row, refuses each further one, and gives no table. However many rows there are, this visits
+    /// the nodes of the last place and of this one alone, and compares such a rest with the element
+    /// before it.
     pub fn append(&mut self, place: &Place, row: R) -> Result<bool, Memory>
         ensures appends { IfOk result
             (Appends R.refuses R.is_value self.old place.now row self.new) }
-        ensures err { OnErr result (self.new ≡ []) }
+        ensures err { OnErr result (self.new ≡ None) }
     {
+        if self.is_refused {
+            return Ok(false);
+        }
         match go_on(self.alloc, &mut self.above, &mut self.last, place, row) {
             Ok(true) => Ok(true),
             Ok(false) => {
-                self.above.clear();
-                self.last = Node::new(self.alloc);
+                let_go(self.alloc, &mut self.above, &mut self.last);
+                self.is_refused = true;
                 Ok(false)
             }
             Err(memory) => {
-                self.above.clear();
-                self.last = Node::new(self.alloc);
+                let_go(self.alloc, &mut self.above, &mut self.last);
+                self.is_refused = true;
                 Err(memory)
             }
         }
     }
 
     /// The table that has just these rows, if there is one: a rest that begins before an element of
-    /// its own, or whose last such element is as it is, is that of no table.
+    /// its own, or whose last such element is as it is, is that of no table. A draft that was
+    /// refused gives none.
     pub fn finish(self) -> Result<Option<Table<R>>, Memory>
         ensures form { IfOk result (λ found. IfSome found (IsTable R.refuses R.is_value)) }
-        ensures rows { IfOk result (λ found. IfSome found (λ table. rows_of table ≡ self)) }
+        ensures rows { IfOk result (λ found. IfSome found (λ table. Some (rows_of table) ≡ self)) }
         ensures none { IfOk result (λ found. IfNone found ((table : Tree R)
-            → IsTable R.refuses R.is_value table → ¬ (rows_of table ≡ self))) }
+            → IsTable R.refuses R.is_value table → ¬ (Some (rows_of table) ≡ self))) }
     {
         let Draft {
             alloc,
             mut above,
             mut last,
+            is_refused,
         } = self;
+        if is_refused {
+            return Ok(None);
+        }
         if !close(alloc, &mut above, &mut last, 0)? {
             return Ok(None);
         }
         Ok(Some(Table::of_root(alloc, last)))
     }
+}
+
+/// Drops all rows.
+fn let_go<R: Narrow>(alloc: Global, above: &mut Vec<Open<R>>, last: &mut Node<R>)
+    ensures above { above.new.items ≡ [] }
+    ensures last { last.new ≡ empty }
+{
+    above.clear();
+    *last = Node::new(alloc);
 }
 
 /// Lets the nodes of a draft go on to a row behind all others, or says that no table has rows that

@@ -87,8 +87,8 @@ fn tell(alloc: Global, question: Question, site: &Replica, out: &mut Vec<u8>) ->
         × (out.new.items ≡ out.old.items ++ reply)) }
     ensures err { OnErr result (out.new.items ≡ out.old.items) }
 {
-    match question {
-        Question::State => tell_state(site, out),
-        _ => tell_text(alloc, question, site, out),
+    match question.as_text() {
+        None => tell_state(site, out),
+        Some(question) => tell_text(alloc, question, site, out),
     }
 }

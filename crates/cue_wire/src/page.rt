@@ -15,20 +15,6 @@ pub struct Page {
     ghost within: { length bytes.items ≤ frame_limit },
 }
 
-/// Why a page takes no more.
-#[derive(Drop)]
-pub enum Unsaid {
-    /// It is full.
-    TooLong,
-    Memory(Memory),
-}
-
-impl From<Memory> for Unsaid {
-    fn from(memory: Memory) -> Unsaid {
-        Unsaid::Memory(memory)
-    }
-}
-
 impl Page {
     ghost use Rattle.cue_wire.specs.Inner.Pages.{page_bytes};
 
@@ -67,13 +53,15 @@ impl Page {
 }
 
 impl TextSink for Page {
-    type Halt = Unsaid;
+    type Halt = Memory;
 
     ghost use Rattle.cue_wire.specs.Inner.Pages.{page_bytes};
 
     ghost taken = { λ page. Some (page_bytes page) };
 
-    fn put(&mut self, piece: &str) -> Result<(), Unsaid> {
+    /// Adds a piece. A full page takes what fits, and then answers as memory that ran out does:
+    /// `is_full` says which of both it was.
+    fn put(&mut self, piece: &str) -> Result<(), Memory> {
         let bytes = piece.as_bytes();
         let room = FRAME_LIMIT - self.bytes.len();
         if bytes.len() <= room {
@@ -81,6 +69,6 @@ impl TextSink for Page {
             return Ok(());
         }
         self.add(&bytes[..room])?;
-        Err(Unsaid::TooLong)
+        Err(Memory::beyond(u64::MAX, 1))
     }
 }

@@ -217,6 +217,22 @@ fn is_drafted<R: Narrow>(alloc: Global, tree: &Table<R>, plain: &Plain<R>) -> Ma
     Ok(is_finished(draft, tree)? && appended)
 }
 
+/// Whether a draft refuses a row at its last place and then each further row, and gives no table.
+pub fn stays_refused<R: Narrow>(
+    alloc: Global,
+    first: Made<Path>,
+    next: Made<Path>,
+    row: Made<R>,
+) -> Made<bool> {
+    let (first, row) = (first?, row?);
+    let mut draft = Draft::new(alloc);
+    let is_first = append(alloc, &mut draft, first.copy(alloc), &row)?;
+    let is_again = append(alloc, &mut draft, Ok(first), &row)?;
+    let is_next = append(alloc, &mut draft, next, &row)?;
+    let table = draft.finish()?;
+    Ok(is_first && !is_again && !is_next && table.is_none())
+}
+
 /// Whether these rows make the same table both ways, which a copy is equal to, and which is made
 /// again by its rows in path order.
 fn are_added<R: Narrow>(

@@ -1,5 +1,5 @@
 //! Each list of rows through the tree and through the plain list.
-use crate::both::{adds, agrees, has_indexes, has_labels, roots, stays, tree};
+use crate::both::{adds, agrees, has_indexes, has_labels, roots, stays, stays_refused, tree};
 use crate::large::{mixes, takes_small_ones};
 use crate::many::{hangs, is_own_root, lists, rests, unifies};
 use crate::plain::Made;
@@ -87,6 +87,14 @@ fn puts_many_branches_in_in_any_order(rt: HostRuntime) -> Result<(), Fail> {
 #[test]
 fn takes_small_tables_into_a_large_one(rt: HostRuntime) -> Result<(), Fail> {
     assert!(rt; takes_small_ones(rt.alloc(), row(rt.alloc(), "one"))?);
+    Ok(())
+}
+
+#[test]
+fn gives_no_table_of_a_refused_draft(rt: HostRuntime) -> Result<(), Fail> {
+    let alloc = rt.alloc();
+    let (first, next) = (path(alloc, "a"), path(alloc, "b"));
+    assert!(rt; stays_refused(alloc, first, next, row(alloc, "one"))?);
     Ok(())
 }
 

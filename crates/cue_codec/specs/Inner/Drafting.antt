@@ -29,10 +29,18 @@ entries_from (row ∷ rows) (fixed ∷ indexes) =
 abbrev pub rows_bytes : Version → List (slots.Place × Row) → List ℕ → List ℕ
 rows_bytes version rows indexes = flat_map (row_bytes version) (entries_from rows indexes)
 
+-- the rows of a draft, which has none once it was refused
+abbrev pub rows_in : Option (List (slots.Place × Row)) → List (slots.Place × Row)
+rows_in None = []
+rows_in (Some rows) = rows
+
 -- So many of the rows are missing; the last stands at the place, and this is known after it.
-pub record IsDrafting (version : Version) (count left : ℕ) (rows : List (slots.Place × Row))
-    (indexes known : List ℕ) (place : slots.Place) : Type 0 where
-  pub read : AreRead version (rows_bytes version rows indexes) [] count left rows indexes known
+pub record IsDrafting (version : Version) (count left : ℕ)
+    (draft : Option (List (slots.Place × Row))) (indexes known : List ℕ) (place : slots.Place)
+    : Type 0 where
+  pub goes_on : draft ≡ Some (rows_in draft)
+  pub read : AreRead version (rows_bytes version (rows_in draft) indexes) [] count left
+      (rows_in draft) indexes known
   pub steps : IsStatePath version (told_place place)
   pub placed : IsKnown known place
   pub deep : length known ≡ 65

@@ -9,6 +9,11 @@ use Rattle.cue_table.specs.Slots.{Slot, at, from, slot_cmp, Place, rows_of}
 use Rattle.cue_table.specs.Tree.{Tree, empty}
 use Rattle.cue_table.specs.Inner.Opened.{closed, IsDraft}
 
+-- the rows of a draft, unless it was refused
+abbrev pub unless_refused : {R : Type 0} → Bool → List (Place × R) → Option (List (Place × R))
+unless_refused false rows = Some rows
+unless_refused true rows = None
+
 -- how many of them stay open, where so many of those below do, by how the slot of the first one
 -- compares with that of the place
 abbrev pub staying_by : Ordering → Slot → Option ℕ → Option ℕ

@@ -1,9 +1,15 @@
-use Rattle.std.proofs.Common.{◌∷◌, ◌++◌, [], ap, subst, ◌∙◌}
+use Rattle.std.proofs.Common.{None, refl, subst}
 use Rattle.cue_table.specs.Form.{IsKept}
 use Rattle.cue_table.specs.Inner.Drafts.{GoesOn}
-use Rattle.cue_table.proofs.Beyond.{AreNone}
-use Rattle.cue_table.proofs.Drafting.{none_drafted}
+use Rattle.cue_table.specs.Inner.Opened.{closed}
+use Rattle.cue_table.specs.Slots.{rows_of}
+use Rattle.cue_table.proofs.Drafting.{draft_goes_on, draft_is_refused, draft_stays_refused, none_drafted}
 use Rattle.cue_table.proofs.draft.Draft.append.Goals as goal
+
+pub returns-then-self-clause-appends : goal.returns-then-self-clause-appends
+returns-then-self-clause-appends g c =
+    let i = c.self.inside in
+    draft_stays_refused g.R.Narrow.refuses g.R.Narrow.is_value i.is_refused (rows_of (closed i.above.items i.last)) c.args.self.now c.args.place.now c.args.row c.self.view_is c.if-self.true
 
 pub go_on-requires : goal.go_on-requires
 go_on-requires g c = c.self.invariant
@@ -16,28 +22,23 @@ invariant_of-self g c =
 pub returns-in-Ok-true-clause-appends : goal.returns-in-Ok-true-clause-appends
 returns-in-Ok-true-clause-appends g c =
     let P = IsKept g.R.Narrow.refuses g.R.Narrow.is_value in
-    (subst (GoesOn P c.self.inside.above.items c.self.inside.last c.args.place.now c.args.row c.go_on.new.above.items c.go_on.new.last) c.in-Ok-true.field-0-test c.in-Ok-true.ensures).1
-    ∙ ap (λ rows. rows ++ (c.args.place.now, c.args.row) ∷ []) c.self.view_is
+    let i = c.self.inside in
+    draft_goes_on g.R.Narrow.refuses g.R.Narrow.is_value i.is_refused (rows_of (closed i.above.items i.last)) c.args.self.now c.args.place.now c.args.row c.self.view_is (rows_of (closed c.go_on.new.above.items c.go_on.new.last)) c.if-self.false
+    (subst (GoesOn P i.above.items i.last c.args.place.now c.args.row c.go_on.new.above.items c.go_on.new.last) c.in-Ok-true.field-0-test c.in-Ok-true.ensures).1
 
 pub invariant_of-self-in-Ok-false : goal.invariant_of-self-in-Ok-false
 invariant_of-self-in-Ok-false g c =
     let P = IsKept g.R.Narrow.refuses g.R.Narrow.is_value in
-    (none_drafted P c.clear.new.self.items c.new.result c.clear.ensures.items c.new.ensures).0
+    (none_drafted P c.let_go.new.above.items c.let_go.new.last c.let_go.ensures.above c.let_go.ensures.last).0
 
 pub returns-in-Ok-false-clause-appends : goal.returns-in-Ok-false-clause-appends
 returns-in-Ok-false-clause-appends g c =
     let P = IsKept g.R.Narrow.refuses g.R.Narrow.is_value in
-    let none = subst (GoesOn P c.self.inside.above.items c.self.inside.last c.args.place.now c.args.row c.go_on.new.above.items c.go_on.new.last) c.in-Ok-false.field-0-test c.in-Ok-false.ensures in (
-      (none_drafted P c.clear.new.self.items c.new.result c.clear.ensures.items c.new.ensures).1,
-      subst (λ rows. AreNone P (rows ++ (c.args.place.now, c.args.row) ∷ [])) c.self.view_is none,
-    )
+    let i = c.self.inside in
+    draft_is_refused g.R.Narrow.refuses g.R.Narrow.is_value i.is_refused (rows_of (closed i.above.items i.last)) c.args.self.now c.args.place.now c.args.row c.self.view_is None c.if-self.false refl
+    (subst (GoesOn P i.above.items i.last c.args.place.now c.args.row c.go_on.new.above.items c.go_on.new.last) c.in-Ok-false.field-0-test c.in-Ok-false.ensures)
 
 pub invariant_of-self-in-Err : goal.invariant_of-self-in-Err
 invariant_of-self-in-Err g c =
     let P = IsKept g.R.Narrow.refuses g.R.Narrow.is_value in
-    (none_drafted P c.clear-in-Err.new.self.items c.new-in-Err.result c.clear-in-Err.ensures.items c.new-in-Err.ensures).0
-
-pub returns-in-Err-clause-err : goal.returns-in-Err-clause-err
-returns-in-Err-clause-err g c =
-    let P = IsKept g.R.Narrow.refuses g.R.Narrow.is_value in
-    (none_drafted P c.clear-in-Err.new.self.items c.new-in-Err.result c.clear-in-Err.ensures.items c.new-in-Err.ensures).1
+    (none_drafted P c.let_go-in-Err.new.above.items c.let_go-in-Err.new.last c.let_go-in-Err.ensures.above c.let_go-in-Err.ensures.last).0

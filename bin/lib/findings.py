@@ -1,0 +1,174 @@
+"""What a report finds in files, for `cuestore check`: refused files, conflicts and incomplete paths grouped by cause, and slips."""
+import collections
+import os
+import tempfile
+
+from program import REFUSED, front_of, run, said, stop
+from refusals import Fault
+from sayings import causes_of, fragment_of, is_state, path_of, why_of
+
+# The faults of one file that are looked for, and the files that may be refused before the report is given up.
+MOST_FAULTS = 40
+
+
+def first_fault(data):
+    """The first fault of one input, and the input as it is."""
+    with tempfile.NamedTemporaryFile() as file:
+        file.write(data)
+        file.flush()
+        refused = REFUSED.match(front_of(["print", file.name]))
+    return Fault(int(refused[1]), refused[2].decode(), int(refused[3]), data) if refused and refused[3] else None
+
+
+def faults_of(data, first):
+    """The fault of an input, and those that come once what was faulty is left out. Each shows the input as it is."""
+    fault, place, whole = first, -1, data
+    for _ in range(MOST_FAULTS):
+        if fault is None:
+            return
+        fault.show(whole)
+        yield fault
+        data = fault.without()
+        if data is None:
+            return
+        place, last = fault.place, fault
+        fault = first_fault(data)
+        if fault and (fault.place, fault.number) == (place, last.number):
+            return
+
+
+def files_of(names):
+    """The files that these names stand for: a folder's are its fragments and states, at any depth."""
+    found = []
+    for name in names:
+        if not os.path.isdir(name):
+            found.append(name)
+            continue
+        for at, folders, files in os.walk(name):
+            folders[:] = sorted(folder for folder in folders if not folder.startswith("."))
+            found += [os.path.join(at, file) for file in sorted(files) if file.endswith((".cue", ".state"))]
+    return found
+
+
+def read(name):
+    with open(name, "rb") as file:
+        return file.read()
+
+
+class Group:
+    """Lines of a report that have one cause: their paths, and the lines of the inputs that say the first one."""
+
+    def __init__(self, kind, why):
+        self.kind, self.why, self.paths, self.causes = kind, why, [], []
+
+    def as_json(self):
+        return {"kind": self.kind, "why": self.why, "paths": self.paths, "from": [cause.as_json() for cause in self.causes]}
+
+
+class Slip:
+    """A label at the root of one file that is nearly one that more files have."""
+
+    def __init__(self, name, row, column, label, other, count):
+        self.name, self.row, self.column, self.label, self.other, self.count = name, row, column, label, other, count
+
+    def text(self):
+        return f"`{self.label}` is in this file alone, and {self.count} files have `{self.other}`: a slip?"
+
+    def __str__(self):
+        return f"{self.name}:{self.row}:{self.column}: {self.text()}"
+
+    def as_json(self):
+        return {"file": self.name, "line": self.row, "column": self.column, "label": self.label, "like": self.other}
+
+
+def place_of(cause):
+    return cause.name, cause.row, cause.column
+
+
+def group_lines(told):
+    """The groups of report lines, each with its causes: a line belongs to the cause that most lines of its kind share."""
+    shared = collections.Counter(key for line, causes in told for key in {(why_of(line), *place_of(cause)) for cause in causes})
+    groups = {}
+    for line, causes in told:
+        why = why_of(line)
+        key = max(((shared[why, *place_of(cause)], (why, *place_of(cause))) for cause in causes),
+                  key=lambda it: it[0], default=(0, line))
+        key = key[1] if key[0] > 1 else line
+        group = groups.setdefault((line.split(" ", 1)[0], key), Group(line.split(" ", 1)[0], why))
+        group.paths.append(path_of(line))
+        if len(group.paths) == 1:
+            group.causes = causes
+    return list(groups.values())
+
+
+def is_near(label, other):
+    """Whether two labels differ by one letter that was left out, added or changed, or by two that changed places."""
+    if abs(len(label) - len(other)) > 1 or label == other or min(len(label), len(other)) < 3:
+        return False
+    if len(label) == len(other):
+        differ = [i for i in range(len(label)) if label[i] != other[i]]
+        return len(differ) == 1 or len(differ) == 2 and differ[1] == differ[0] + 1 and \
+            label[differ[0]] == other[differ[1]] and label[differ[1]] == other[differ[0]]
+    shorter, longer = sorted((label, other), key=len)
+    return any(longer[:i] + longer[i + 1:] == shorter for i in range(len(longer)))
+
+
+def root_labels(name, data):
+    """The labels at the root of a fragment, each where it first stands."""
+    fragment, found = fragment_of(name, data), {}
+    for first, _, end in fragment.declarations(0, len(fragment.tokens)):
+        label = fragment.tokens[first].text.strip('"')
+        if not label.startswith("#"):
+            found.setdefault(label, fragment.saying(first, end))
+    return found
+
+
+def slips_of(inputs):
+    """The labels of one file that are nearly those of more files."""
+    labels = {name: root_labels(name, data) for name, data in inputs if not is_state(data)}
+    counts = collections.Counter(label for found in labels.values() for label in found)
+    slips = []
+    for name, found in labels.items():
+        for label, said_there in found.items():
+            others = [other for other, count in counts.items() if count > 1 and is_near(label, other)]
+            if counts[label] == 1 and others:
+                other = max(others, key=lambda it: counts[it])
+                slips.append(Slip(name, said_there.row, said_there.column, label, other, counts[other]))
+    return slips
+
+
+class Findings:
+    """What the report of files finds."""
+
+    def __init__(self, files):
+        self.files, self.refused = files, []
+        inputs = [(name, read(name)) for name in files]
+        status, lines, inputs = self.report(inputs)
+        told = [(line, causes_of(line, inputs)) for line in lines]
+        self.groups = group_lines(told)
+        self.slips = slips_of(inputs)
+        self.status = 1 if self.refused else status
+
+    def report(self, inputs):
+        """The report of the inputs that are not refused: its status, its lines, and these inputs."""
+        while True:
+            names = [name for name, _ in inputs]
+            status, out, faults = run(["report", "--", *names]) if names else (0, b"", b"")
+            refused = REFUSED.search(out) if status == 1 else None
+            if status in (0, 2, 3):
+                return status, out.decode("utf-8", "replace").split("\n")[:-1], inputs
+            if refused is None or refused[4] is None:
+                stop("cuestore check", said(out, faults, names), status)
+            at = int(refused[4]) - 1
+            name, data = inputs[at]
+            first = Fault(int(refused[1]), refused[2].decode(), int(refused[3]), data)
+            self.refused += [(fault, name) for fault in faults_of(data, first)]
+            inputs = inputs[:at] + inputs[at + 1:]
+
+    def total(self, kind):
+        return sum(len(group.paths) for group in self.groups if group.kind == kind)
+
+    def as_json(self):
+        return {"status": self.status, "files": self.files,
+                "refused": [fault.as_json(name, 0) for fault, name in self.refused],
+                "groups": [group.as_json() for group in self.groups], "slips": [slip.as_json() for slip in self.slips]}
