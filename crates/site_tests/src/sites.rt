@@ -4,8 +4,9 @@ use bytes::{Buf, Bytes};
 use cue_http::{Gathers, News};
 use cue_journal::{Journal, Pair, Unfit};
 use cue_replica::Replica;
-use cue_service::{Desk, Shown, Site, SourceStanding, Standing, Token};
-use cue_service::{add_entries, is_hidden, snapshot_in};
+use cue_service::{
+    Desk, Shown, Site, SourceStanding, Standing, Token, add_entries, is_hidden, snapshot_in,
+};
 use http::Request;
 use http_server::{Response, Settle};
 use sqlite_disk::Memory;
@@ -104,7 +105,15 @@ fn site_behind(alloc: Global, snapshot: usize) -> Site<Memory> {
         Journal::new(Memory::new(alloc), 0),
     );
     let standing = Standing::new(alloc, Vec::new(alloc));
-    Site::new(alloc, files, snapshot, Replica::new(alloc), None, standing, RUN)
+    Site::new(
+        alloc,
+        files,
+        snapshot,
+        Replica::new(alloc),
+        None,
+        standing,
+        RUN,
+    )
 }
 
 /// Sends a site a text of 800,000 bytes, most of which are a comment.
@@ -164,7 +173,11 @@ fn what_is_hidden_is_written_as_a_number(rt: HostRuntime) -> Result<(), Fail> {
     let rows: &[Row] = &[("POST /fragments", b"a: \"\\u202e\"", 204, b"")];
     assert!(rt; answers_all(rt.alloc(), &mut site, rows)?);
     let page = text_at(rt.alloc(), &mut site, "/")?;
-    assert!(rt; !page.windows(3).any(|part| part == b"\xE2\x80\xAE".as_slice()));
+    assert!(rt;
+        !page
+            .windows(3)
+            .any(|part| part == b"\xE2\x80\xAE".as_slice())
+    );
     Ok(())
 }
 

@@ -101,7 +101,10 @@ fn a_connection_gets_its_part_of_a_round(rt: HostRuntime) -> Result<(), Fail> {
     assert!(rt; serve(&rt, &rt, listener, bounds(), &[], site, 1).is_ok());
     let mut all = Vec::new(rt.alloc());
     let _reset = (&posting).read_to_end(&mut all);
-    let answered = all.windows(4).filter(|part| *part == b" 204".as_slice()).count();
+    let answered = all
+        .windows(4)
+        .filter(|part| *part == b" 204".as_slice())
+        .count();
     assert!(rt; 0 < answered && answered <= 32 * 1024 / POST.len() + 1);
     Ok(())
 }
