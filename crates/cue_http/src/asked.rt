@@ -76,21 +76,7 @@ impl Asked {
         if self.question.is_some() || now < self.next {
             return;
         }
-        let until = later(now, bounds.idle);
-        let own = match self.tag.is_empty() && self.cursor.is_none() {
-            true => service.tag(),
-            false => None,
-        };
-        let token = token_of(self.number);
-        match Question::begin(
-            rt,
-            rt.alloc(),
-            poll,
-            token,
-            self.at,
-            self.wanted(&own),
-            until,
-        ) {
+        match self.ask(rt, poll, later(now, bounds.idle), service) {
             Ok(question) => self.question = Some(question),
             Err(Unasked::Refused) if self.remembers() => {
                 self.forget();
@@ -98,6 +84,26 @@ impl Asked {
             }
             Err(_) => self.failed(rt, now, bounds, service),
         }
+    }
+
+    /// Asks, for an answer until this moment.
+    fn ask<H, S: Gathers>(
+        &self,
+        rt: &H,
+        poll: &Poll,
+        until: Instant,
+        service: &mut S,
+    ) -> Result<Question, Unasked>
+    where
+        H: AllocGlobal + Net,
+    {
+        let own = match self.remembers() {
+            true => None,
+            false => service.tag(),
+        };
+        let token = token_of(self.number);
+        let wanted = self.wanted(&own);
+        Question::begin(rt, rt.alloc(), poll, token, self.at, wanted, until)
     }
 
     /// What is asked for: the pieces behind the place that is remembered, or the state, unless it is

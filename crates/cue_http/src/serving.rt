@@ -1,3 +1,5 @@
+ghost use Rattle.std.specs.Prelude.{◌≤◌, IfOk};
+
 use crate::asked::{Asked, later, token_of};
 use crate::ended::{Ended, called};
 use crate::peers::{LISTENER, Peers, Taking, add};
@@ -76,36 +78,18 @@ where
     S: Settle + Gathers + Drop,
     L: Log,
 {
-    let alloc: Global = rt.alloc();
     let mut poll = called("epoll_create", Poll::new(rt))?;
-    let readable = Interest::READABLE;
-    let token = Token(LISTENER);
-    called(
-        "epoll_ctl",
-        poll.registry().register(&mut listener, token, readable),
-    )?;
-    let mut events = Events::with_capacity(alloc, MOST_EVENTS)?;
+    let registered = poll
+        .registry()
+        .register(&mut listener, Token(LISTENER), Interest::READABLE);
+    called("epoll_ctl", registered)?;
+    let mut events = Events::with_capacity(rt.alloc(), MOST_EVENTS)?;
     let start = called("clock_gettime", Instant::now(rt))?;
     let keys = called("getrandom", RandomState::new(rt))?;
-    let mut state = Loop {
-        peers: Peers::new(alloc, keys, bounds, start),
-        asked: asked_of(alloc, sources, start, bounds.every)?,
-        service: InRound::new(alloc, service),
-        bounds,
-        taking: Taking::More,
-        again: start,
-        busy: true,
-    };
+    let mut state = Loop::new(rt.alloc(), keys, bounds, sources, service, start)?;
     let mut failures = 0u64;
     for _ in 0..rounds {
-        match poll.poll(&mut events, Some(state.wait())) {
-            Ok(()) => failures = 0,
-            Err(error) if failures >= MOST_FAILURES => return Err(Ended::System(
-                "epoll_wait",
-                error,
-            )),
-            Err(_) => failures += 1,
-        }
+        failures = wait_for_sockets(&mut poll, &mut events, state.wait(), failures)?;
         for event in &events {
             let Token(token) = event.token();
             state.wake(token);
@@ -120,6 +104,26 @@ where
     Ok(())
 }
 
+/// Waits for sockets, behind so many waits that failed one after the other. Answers how many have.
+///
+/// # Errors
+///
+/// That of the wait, once too many have failed.
+fn wait_for_sockets(
+    poll: &mut Poll,
+    events: &mut Events,
+    most: Duration,
+    failures: u64,
+) -> Result<u64, Ended>
+    ensures { IfOk result (λ failed. failed ≤ 16) }
+{
+    match poll.poll(events, Some(most)) {
+        Ok(()) => Ok(0),
+        Err(error) if failures >= MOST_FAILURES => Err(Ended::System("epoll_wait", error)),
+        Err(_) => Ok(failures + 1),
+    }
+}
+
 fn asked_of(
     alloc: Global,
     sources: &[Source],
@@ -131,6 +135,28 @@ fn asked_of(
         add(&mut asked, Asked::new(alloc, number, source.at, now, every))?;
     }
     Ok(asked)
+}
+
+impl<S: Drop> Loop<S> {
+    /// One without a connection, from this moment on.
+    fn new(
+        alloc: Global,
+        keys: RandomState,
+        bounds: Bounds,
+        sources: &[Source],
+        service: S,
+        start: Instant,
+    ) -> Result<Loop<S>, AllocError> {
+        Ok(Loop {
+            peers: Peers::new(alloc, keys, bounds, start),
+            asked: asked_of(alloc, sources, start, bounds.every)?,
+            service: InRound::new(alloc, service),
+            bounds,
+            taking: Taking::More,
+            again: start,
+            busy: true,
+        })
+    }
 }
 
 impl<S: Settle + Gathers> Loop<S> {
