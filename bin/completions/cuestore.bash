@@ -1,7 +1,7 @@
 # Completions for bash: `source bin/completions/cuestore.bash`
 _cuestore() {
   local words='export print report state merge serve push loop'
-  local tools='check why explain at diff add fmt from-json to carry git-setup help'
+  local tools='check why explain at diff add fmt lsp from-json to carry git-setup help'
   if [ "$COMP_CWORD" -eq 1 ]; then
     if [ "${COMP_WORDS[0]}" = cuestore ]; then words="$words $tools"; fi
     mapfile -t COMPREPLY < <(compgen -W "$words" -- "${COMP_WORDS[1]}")

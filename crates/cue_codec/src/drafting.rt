@@ -1,7 +1,7 @@
 //! Rows read one after another, of which a table is made.
 
 ghost use Rattle.std.specs.Prelude.{◌≡◌, ◌<◌, ◌↔◌, ◌∷◌, ◌++◌, [], ℕ, List, IsTrue};
-ghost use Rattle.std.specs.Prelude.{IfOk, IfErr, Some};
+ghost use Rattle.std.specs.Prelude.{IfOk, IfErr, OnErr, Some};
 ghost use Rattle.cue_lattice.specs.declared.refusal.Kind.TheVariants.{Memory as OutOfMemory};
 ghost use Rattle.cue_row.specs.Row.{Refuses, IsRow};
 ghost use Rattle.cue_table.specs.RowList.{BeginsNoTable};
@@ -55,19 +55,22 @@ impl Model for Drafting {
         d.place };
 }
 
-/// Adds a row behind those of a draft, which is of no further use where it is refused.
-fn append(draft: &mut Draft<Row>, place: &Place, row: Row) -> Result<(), Kind>
+/// Adds a row behind those of a draft. A draft that refuses it is begun anew.
+fn append(alloc: Global, draft: &mut Draft<Row>, place: &Place, row: Row) -> Result<(), Kind>
     requires { draft.old ≡ Some (rows_in draft.old) }
     ensures ok { IfOk result
         (λ none. draft.new ≡ Some (rows_in draft.old ++ (place.now, row) ∷ [])) }
     ensures refused { IfErr result (λ kind. IsRefused kind
         (BeginsNoTable Refuses IsRow (rows_in draft.old ++ (place.now, row) ∷ []))) }
+    ensures err { OnErr result (draft.new ≡ Some []) }
 {
-    match draft.append(place, row) {
-        Ok(true) => Ok(()),
-        Ok(false) => Err(Kind::NotState),
-        Err(_) => Err(Kind::Memory),
-    }
+    let kind = match draft.append(place, row) {
+        Ok(true) => return Ok(()),
+        Ok(false) => Kind::NotState,
+        Err(_) => Kind::Memory,
+    };
+    *draft = Draft::new(alloc);
+    Err(kind)
 }
 
 impl Drafting {
@@ -124,9 +127,8 @@ impl Drafting {
         let Ok(()) = self.indexes.reserve(1) else {
             return Err(Kind::Memory);
         };
-        if let Err(kind) = append(&mut self.draft, &place, row) {
-            // The draft is of no further use, so all rows are missing.
-            self.draft = Draft::new(self.alloc);
+        if let Err(kind) = append(self.alloc, &mut self.draft, &place, row) {
+            // The draft is a new one, so all rows are missing.
             self.left = self.count;
             self.indexes.clear();
             self.known = [0; 65];

@@ -13,16 +13,15 @@ use Rattle.cue_program.specs.declared.Stop.{Stop}
 use Rattle.cue_program.specs.declared.Stop.TheVariants as stops
 use Rattle.cue_program.specs.declared.Kind.TheVariants as kinds
 use Rattle.cue_program.proofs.Devices.{appends_keeps, appends_more}
-use Rattle.cue_command.specs.Faults.{IsComplaint, IsRefused, IsTold, line_of}
+use Rattle.cue_command.specs.Faults.{IsComplaint, IsRefused, IsTold, fault_of, line_of}
 use Rattle.cue_command.specs.Runs.{Around, IsRun, IsAnswerTold}
 use Rattle.cue_command.specs.inner.Replies.{IsReplyTold, IsReplyToWords}
 use Rattle.cue_command.specs.Words.{asked, asking, merging, serving, pushing, looping}
 use Rattle.cue_command.specs.declared.acting.Reply.{Reply}
 use Rattle.cue_command.specs.declared.acting.Reply.TheVariants as replies
-use Rattle.cue_command.specs.declared.fault.Fault.TheVariants as faults
 
 -- the line that tells want of memory
-memory_line : line_of (faults.Stopped (stops.Refused kinds.Memory)) ≡ codes "refused 24 Memory\n"
+memory_line : line_of (fault_of (stops.Refused kinds.Memory)) ≡ codes "refused 24 Memory\n"
 unfolding digits
 memory_line = refl
 
@@ -31,18 +30,18 @@ no_refusal t h k = cc
 
 -- what is told of a device that failed
 module _ (stop : Stop) (status : ℕ) (out complaints : Passage) where
-  pub device_told : IsDevice stop → IsTold (faults.Stopped stop) status out complaints → (status ≡ 4) × IsUntouched out × IsComplaint complaints
-  device_told is told = go (subst (λ (s : Stop). IsTold (faults.Stopped s) status out complaints) is told)
+  pub device_told : IsDevice stop → IsTold (fault_of stop) status out complaints → (status ≡ 4) × IsUntouched out × IsComplaint complaints
+  device_told is told = go (subst (λ (s : Stop). IsTold (fault_of s) status out complaints) is told)
     where
-      go : IsTold (faults.Stopped stops.Device) status out complaints → (status ≡ 4) × IsUntouched out × IsComplaint complaints
+      go : IsTold (fault_of stops.Device) status out complaints → (status ≡ 4) × IsUntouched out × IsComplaint complaints
       go (inl h) = absurd (no_refusal false refl h.0)
       go (inr h) = (h.1, h.2, h.3)
 
   -- and of want of memory
-  memory_told : IsMemory stop → IsTold (faults.Stopped stop) status out complaints → IsRefused (codes "refused 24 Memory\n") status out complaints
-  memory_told is told = go (subst (λ (s : Stop). IsTold (faults.Stopped s) status out complaints) is told)
+  memory_told : IsMemory stop → IsTold (fault_of stop) status out complaints → IsRefused (codes "refused 24 Memory\n") status out complaints
+  memory_told is told = go (subst (λ (s : Stop). IsTold (fault_of s) status out complaints) is told)
     where
-      go : IsTold (faults.Stopped (stops.Refused kinds.Memory)) status out complaints → IsRefused (codes "refused 24 Memory\n") status out complaints
+      go : IsTold (fault_of (stops.Refused kinds.Memory)) status out complaints → IsRefused (codes "refused 24 Memory\n") status out complaints
       go (inl h) = subst (λ (line : List ℕ). IsRefused line status out complaints) memory_line h.1
       go (inr h) = absurd (no_refusal true h.0 refl)
 
@@ -64,7 +63,7 @@ module _ {W : Type 0} (contents : W → Option (List ℕ)) (old mid new : Outlet
   -- an answer that could not be written whole
   pub answer_not_told :
       (question : Question) (table : Table) (stop : Stop) (status : ℕ) (complaints : Passage) → IsAnswerCut question table (passed contents old mid) stop
-      → IsTold (faults.Stopped stop) status (passed contents mid new) complaints → IsAnswerTold question table (passed contents old new) complaints status
+      → IsTold (fault_of stop) status (passed contents mid new) complaints → IsAnswerTold question table (passed contents old new) complaints status
   answer_not_told question table stop status complaints (why, begun) told =
       ⊎_elim
       (λ device. let h = device_told stop status (passed contents mid new) complaints device.0 told in

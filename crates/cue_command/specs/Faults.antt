@@ -9,6 +9,8 @@ use Rattle.cue_program.specs.declared.Stop.{Stop}
 use Rattle.cue_program.specs.declared.Stop.TheVariants as stops
 use Rattle.cue_command.specs.declared.fault.Fault.{Fault}
 use Rattle.cue_command.specs.declared.fault.Fault.TheVariants as faults
+use Rattle.cue_command.specs.declared.fault.RunRefusal.{RunRefusal}
+use Rattle.cue_command.specs.declared.fault.RunRefusal.TheVariants as runs
 
 -- the name of a kind of refusal
 abbrev pub name_of : Kind → List ℕ
@@ -18,26 +20,31 @@ name_of kind = unwrap_or (name_at (number_of kind)) []
 abbrev pub kind_text : Kind → List ℕ
 kind_text kind = codes "refused " ++ decimal (number_of kind) ++ codes " " ++ name_of kind
 
--- A stop as text: of a refusal the number and the name of its kind, and of an input's also the
--- place in it, and which input it is.
-abbrev pub stop_text : Stop → List ℕ
-stop_text stops.Device = codes "device fault"
-stop_text (stops.Refused kind) = kind_text kind
-stop_text (stops.RefusedInput why input) =
+-- A refusal as text: the number and the name of its kind, and of an input's also the place in it,
+-- and which input it is.
+abbrev pub refusal_text : RunRefusal → List ℕ
+refusal_text (runs.Run kind) = kind_text kind
+refusal_text (runs.Input why input) =
     kind_text why.kind ++ codes " at " ++ decimal why.place ++ codes " in " ++ decimal input
 
 -- a fault as text
 abbrev pub fault_text : Fault → List ℕ
 fault_text faults.Usage = codes "usage fault"
-fault_text (faults.Stopped stop) = stop_text stop
+fault_text faults.Device = codes "device fault"
+fault_text (faults.Refused refusal) = refusal_text refusal
 
 -- and its line
 abbrev pub line_of : Fault → List ℕ
 line_of fault = fault_text fault ++ codes "\n"
 
--- a run was stopped by this
+-- the fault of a run that was stopped by this
+abbrev pub fault_of : Stop → Fault
+fault_of stops.Device = faults.Device
+fault_of (stops.Refused kind) = faults.Refused (runs.Run kind)
+fault_of (stops.RefusedInput why input) = faults.Refused (runs.Input why input)
+
 abbrev pub IsOf : Stop → Fault → Type 0
-IsOf stop fault = fault ≡ faults.Stopped stop
+IsOf stop fault = fault ≡ fault_of stop
 
 -- memory ran out
 abbrev pub IsMemory : Fault → Type 0
@@ -46,16 +53,14 @@ IsMemory fault = IsOf (stops.Refused kinds.Memory) fault
 -- the fault is told as an answer
 abbrev pub is_refusal : Fault → Bool
 is_refusal faults.Usage = false
-is_refusal (faults.Stopped stops.Device) = false
-is_refusal (faults.Stopped (stops.Refused kind)) = true
-is_refusal (faults.Stopped (stops.RefusedInput why input)) = true
+is_refusal faults.Device = false
+is_refusal (faults.Refused refusal) = true
 
 -- the exit status of a run that was stopped: a fault of a device has one of its own
 abbrev pub status_of : Fault → ℕ
 status_of faults.Usage = 1
-status_of (faults.Stopped stops.Device) = 4
-status_of (faults.Stopped (stops.Refused kind)) = 1
-status_of (faults.Stopped (stops.RefusedInput why input)) = 1
+status_of faults.Device = 4
+status_of (faults.Refused refusal) = 1
 
 -- a fault is told where faults go: a line was added, or some of it in front and a call failed
 abbrev pub IsComplaint : Passage → Type 0

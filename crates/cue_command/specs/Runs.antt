@@ -14,7 +14,7 @@ use Rattle.cue_program.specs.Outlets.{Adds, Breaks, IsUntouched, Passage}
 use Rattle.cue_program.specs.Runs.{IsAnswerAdded, IsMergeOn, IsMergeStopOn, IsStopOn}
 use Rattle.cue_command.specs.declared.fault.Fault.{Fault}
 use Rattle.cue_command.specs.declared.fault.Fault.TheVariants as faults
-use Rattle.cue_command.specs.Faults.{IsComplaint, IsMemory, IsTold}
+use Rattle.cue_command.specs.Faults.{IsComplaint, IsMemory, IsTold, fault_of}
 use Rattle.cue_command.specs.Networks.{IsEndedBy, IsTalkOn, IsTalkStopOn, Reach}
 use Rattle.cue_command.specs.Words.{Asked, asking, merging, serving, pushing, looping, asked}
 
@@ -81,7 +81,7 @@ IsFaultOfWords words at fault =
     ((fault ≡ faults.Usage) × (asked words ≡ None) × at.OnlyReads)
     ⊎ (IsMemory fault × at.OnlyReads)
     ⊎ ((what : Asked) × (asked words ≡ Some what)
-    × ((stop : Stop) × IsStopTo what at stop × (fault ≡ faults.Stopped stop)))
+    × ((stop : Stop) × IsStopTo what at stop × (fault ≡ fault_of stop)))
 
 -- the run ends with an answer to the words: its bytes were added to the output, the status is the
 -- answer's, and where faults go nothing was added

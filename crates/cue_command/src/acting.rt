@@ -1,6 +1,6 @@
 ghost use Rattle.std.specs.Prelude.{◌≡◌, ◌⊎◌, ◌++◌, IfOk, IfErr, List, ℕ, codes, map, string_bytes};
 ghost use Rattle.cue_wire.specs.Connections.{moment};
-ghost use Rattle.cue_command.specs.Faults.{IsComplaint, IsMemory, IsRefused, IsTold, stop_text};
+ghost use Rattle.cue_command.specs.Faults.{IsComplaint, IsMemory, IsRefused, IsTold, refusal_text};
 ghost use Rattle.cue_command.specs.Networks.{reach};
 ghost use Rattle.cue_command.specs.Runs.{around, IsAnswerTo, IsFaultOfWords, IsRun, IsStopTo};
 ghost use Rattle.cue_command.specs.inner.Replies.{IsReplyTo, IsReplyTold, IsReplyToWords};
@@ -9,7 +9,7 @@ ghost use Rattle.cue_program.specs.Files.{texts};
 ghost use Rattle.cue_program.specs.Outlets.{passed};
 
 use crate::command::{Command, command_of, given_words};
-use crate::fault::{Fault, LINE, text_of};
+use crate::fault::{Fault, LINE, RunRefusal, text_of};
 use crate::network::{looped, pushed, served};
 use arrayvec::ArrayString;
 use cue_net::Network;
@@ -117,7 +117,7 @@ where
     let command = command_of(rt.alloc(), words)?;
     match reply_for(rt, &command, input) {
         Ok(reply) => Ok(reply),
-        Err(stop) => Err(Fault::Stopped(stop)),
+        Err(stop) => Err(Fault::from(stop)),
     }
 }
 
@@ -134,11 +134,11 @@ fn show<W: Write, F: Write>(
     match reply {
         Reply::Answer(answer) => match out.tell(&answer.bytes) {
             Ok(()) => answer.status.code(),
-            Err(_) => report(&Fault::Stopped(Stop::Device), out, faults),
+            Err(_) => report(&Fault::Device, out, faults),
         },
         Reply::Site(question, site) => match tell(alloc, *question, site, out) {
             Ok(status) => status.code(),
-            Err(stop) => report(&Fault::Stopped(stop), out, faults),
+            Err(stop) => report(&Fault::from(stop), out, faults),
         },
     }
 }
@@ -202,25 +202,29 @@ pub fn report<W: Write, F: Write>(fault: &Fault, out: &mut Outlet<W>, faults: &m
         (passed F.contents faults.old faults.new) }
 {
     match fault {
-        Fault::Usage | Fault::Stopped(Stop::Device) => {
+        Fault::Usage | Fault::Device => {
             complain(fault, faults);
             fault.status()
         }
-        Fault::Stopped(stop) => refuse(stop, out, faults),
+        Fault::Refused(refusal) => refuse(refusal, out, faults),
     }
 }
 
 /// Writes the line of a refusal.
-fn refuse<W: Write, F: Write>(stop: &Stop, out: &mut Outlet<W>, faults: &mut Outlet<F>) -> u8
-    ensures { IsRefused (stop_text stop.now ++ codes "\n") result
+fn refuse<W: Write, F: Write>(
+    refusal: &RunRefusal,
+    out: &mut Outlet<W>,
+    faults: &mut Outlet<F>,
+) -> u8
+    ensures { IsRefused (refusal_text refusal.now ++ codes "\n") result
         (passed W.contents out.old out.new) (passed F.contents faults.old faults.new) }
 {
-    let mut line = text_of(stop);
+    let mut line = text_of(refusal);
     line.push_str("\n");
     match out.tell(line.as_str().as_bytes()) {
         Ok(()) => 1,
         Err(_) => {
-            complain(&Fault::Stopped(Stop::Device), faults);
+            complain(&Fault::Device, faults);
             4
         }
     }

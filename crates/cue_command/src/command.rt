@@ -15,10 +15,10 @@ ghost use Rattle.cue_command.specs.Words.{asked, asked_by, asking, looping, numb
 ghost use Rattle.cue_command.specs.inner.Rows.{files_in, meaning, merge_in, push_in, serve_in};
 
 use crate::app::store;
-use crate::fault::Fault;
+use crate::fault::{Fault, RunRefusal};
 use clap::ArgMatches;
 use clap::error::ErrorKind;
-use cue_program::{Kind, Question, Stop};
+use cue_program::{Kind, Question};
 use std::alloc::{AllocError, Global};
 use std::env::{Args, Env};
 use std::{env, io};
@@ -82,7 +82,7 @@ pub fn unread(error: &io::Error) -> Fault
     ensures fault { (result ≡ Fault.Usage) ⊎ IsMemory result }
 {
     match error.kind() {
-        io::ErrorKind::OutOfMemory => Fault::Stopped(Stop::Refused(Kind::Memory)),
+        io::ErrorKind::OutOfMemory => Fault::Refused(RunRefusal::Run(Kind::Memory)),
         _ => Fault::Usage,
     }
 }
@@ -126,7 +126,7 @@ fn refused(kind: ErrorKind) -> Fault
     ensures usage { result ≡ Fault.Usage → (kind ≡ ErrorKind.OutOfMemory → ⊥) }
 {
     match kind {
-        ErrorKind::OutOfMemory => Fault::Stopped(Stop::Refused(Kind::Memory)),
+        ErrorKind::OutOfMemory => Fault::Refused(RunRefusal::Run(Kind::Memory)),
         _ => Fault::Usage,
     }
 }

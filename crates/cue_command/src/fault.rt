@@ -1,10 +1,11 @@
 ghost use Rattle.std.specs.Prelude.{◌≡◌, ◌++◌, ◌+◌, ◌<◌, ◌≤◌, [], decimal};
 ghost use Rattle.arrayvec.specs.ArrayString.{array_string_len};
-ghost use Rattle.cue_command.specs.Faults.{kind_text, status_of, stop_text};
+ghost use Rattle.cue_command.specs.Faults.{kind_text, refusal_text, status_of};
 ghost use Rattle.cue_command.specs.inner.Lines.{digit_limit, kind_limit, line_limit};
 
 use arrayvec::ArrayString;
 use cue_program::{Kind, Stop};
+use cue_replica::Refusal;
 use itoa::Buffer;
 use std::alloc::{AllocError, AllocFailed};
 use thiserror::Error;
@@ -12,12 +13,24 @@ use thiserror::Error;
 /// What ends a run before it has an answer.
 #[derive(Clone, Copy, Debug, PartialEq, Eq, Error)]
 pub enum Fault {
-    /// The words ask for nothing that the program does.
+    /// The arguments name nothing that the program does.
     #[error("usage fault")]
     Usage,
-    /// What was asked for came to an end.
+    /// A call of a file, a stream or a port failed.
+    #[error("device fault")]
+    Device,
+    /// An input, or the run itself, was refused.
     #[error("{}", text_of(.0))]
-    Stopped(Stop),
+    Refused(RunRefusal),
+}
+
+/// What was refused in a run, and why.
+#[derive(Clone, Copy, Debug, PartialEq, Eq)]
+pub enum RunRefusal {
+    /// The run itself, and no single input.
+    Run(Kind),
+    /// An input, with its number from 1.
+    Input(Refusal, usize),
 }
 
 impl Fault {
@@ -26,26 +39,25 @@ impl Fault {
         ensures { result ≡ status_of self.now }
     {
         match self {
-            Fault::Stopped(Stop::Device) => 4,
+            Fault::Device => 4,
             _ => 1,
         }
     }
 }
 
-/// What stopped a run is told in fewer bytes.
+/// The line of a refusal has fewer bytes.
 pub const LINE: usize = 128;
 
-/// What is told of what stopped a run: of a refusal the number and the name of its kind, and of an
-/// input's also the place in it, and which input it is. It takes no memory.
-pub fn text_of(stop: &Stop) -> ArrayString<LINE>
-    ensures text { result.bytes ≡ stop_text stop.now }
+/// The text of a refusal: the number and the name of its kind, and for an input also the place in
+/// it, and which input it is. It takes no memory.
+pub fn text_of(refusal: &RunRefusal) -> ArrayString<LINE>
+    ensures text { result.bytes ≡ refusal_text refusal.now }
     ensures short { array_string_len result < line_limit }
 {
     let mut text = ArrayString::new();
-    match stop {
-        Stop::Device => text.push_str("device fault"),
-        Stop::Refused(kind) => push_kind(&mut text, *kind),
-        Stop::RefusedInput(why, input) => {
+    match refusal {
+        RunRefusal::Run(kind) => push_kind(&mut text, *kind),
+        RunRefusal::Input(why, input) => {
             push_kind(&mut text, why.kind);
             text.push_str(" at ");
             push_number(&mut text, why.place as u64);
@@ -56,7 +68,7 @@ pub fn text_of(stop: &Stop) -> ArrayString<LINE>
     text
 }
 
-/// Adds what is told of each refusal: the number and the name of its kind.
+/// Adds the number and the name of a kind of refusal.
 fn push_kind(text: &mut ArrayString<LINE>, kind: Kind)
     requires { text.old.bytes ≡ [] }
     ensures text { text.new.bytes ≡ kind_text kind }
@@ -83,7 +95,11 @@ impl From<Stop> for Fault {
     ghost from_gives = { λ stop fault. IsOf stop fault };
 
     fn from(stop: Stop) -> Fault {
-        Fault::Stopped(stop)
+        match stop {
+            Stop::Device => Fault::Device,
+            Stop::Refused(kind) => Fault::Refused(RunRefusal::Run(kind)),
+            Stop::RefusedInput(why, input) => Fault::Refused(RunRefusal::Input(why, input)),
+        }
     }
 }
 
@@ -92,8 +108,8 @@ impl From<AllocError> for Fault {
 
     ghost from_gives = { λ _ fault. IsMemory fault };
 
-    fn from(error: AllocError) -> Fault {
-        Fault::Stopped(Stop::from(error))
+    fn from(_error: AllocError) -> Fault {
+        Fault::Refused(RunRefusal::Run(Kind::Memory))
     }
 }
 
@@ -102,7 +118,7 @@ impl<T: Drop> From<AllocFailed<T>> for Fault {
 
     ghost from_gives = { λ _ fault. IsMemory fault };
 
-    fn from(error: AllocFailed<T>) -> Fault {
-        Fault::Stopped(Stop::from(error))
+    fn from(_error: AllocFailed<T>) -> Fault {
+        Fault::Refused(RunRefusal::Run(Kind::Memory))
     }
 }

@@ -11,4 +11,4 @@ mod network;
 pub use acting::{act, report, run};
 pub use app::store;
 pub use command::{Command, command_of, given_words, number_in, unread};
-pub use fault::{Fault, LINE, text_of};
+pub use fault::{Fault, LINE, RunRefusal, text_of};
