@@ -37,10 +37,10 @@ pub fn tell_answer<S: TextSink>(
 
 /// Tells a line for each conflict, and then one for each place that is incomplete.
 fn tell_report<S: TextSink>(alloc: Global, site: &Replica, out: &mut S) -> Result<Status, S::Halt>
-    ensures told { IfOk result (λ status. TellsAnswer Question.Report site.now status
+    ensures told { IfOk result (λ status. TellsAnswer (of_text TextQuestion.Report) site.now status
         (S.taken out.old) (S.taken out.new)) }
     ensures begun { OnErr result
-        (BeginsAnswer Question.Report site.now (S.taken out.old) (S.taken out.new)) }
+        (BeginsAnswer (of_text TextQuestion.Report) site.now (S.taken out.old) (S.taken out.new)) }
 {
     let conflicting = site.tell_conflicts(alloc, out)?;
     let lacking = site.tell_gaps(alloc, out)?;

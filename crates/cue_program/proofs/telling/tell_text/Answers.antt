@@ -1,5 +1,6 @@
 use Rattle.std.proofs.Common.{refl, subst}
 use Rattle.std.proofs.lemmas.Result.{err_from_is_err_and}
+use Rattle.cue_answer.specs.Answers.{of_text}
 use Rattle.cue_program.specs.Outlets.{Adds, Breaks, passed}
 use Rattle.cue_program.specs.declared.stop.Stop.TheVariants.{Device}
 use Rattle.cue_program.proofs.Tellings.{end_cut, text_added}
@@ -9,7 +10,7 @@ pub returns-in_ok-tell-in-Ok-clause-told : goal.returns-in_ok-tell-in-Ok-clause-
 returns-in_ok-tell-in-Ok-clause-told g c =
     let contents = g.W.Write.contents in
     let mid = c.tell_answer.new.out in
-    text_added contents c.args.question c.args.site.now c.args.out.now mid c.tell.new.self c.in-Ok.status c.in-Ok.ensures.told
+    text_added contents (of_text c.args.question) c.args.site.now c.args.out.now mid c.tell.new.self c.in-Ok.status c.in-Ok.ensures.told
     (subst (Adds (passed contents mid c.tell.new.self)) c.line_end.ensures c.in_ok-tell-in-Ok.ensures.told)
 
 pub returns-in_err-tell-in-Ok-clause-cut : goal.returns-in_err-tell-in-Ok-clause-cut
@@ -17,5 +18,5 @@ returns-in_err-tell-in-Ok-clause-cut g c =
     let contents = g.W.Write.contents in
     let mid = c.tell_answer.new.out in
     let p = err_from_is_err_and c.from_residual.result c.from_residual.ensures.1 in
-    rw (p.1, p.2) (end_cut contents c.args.question c.args.site.now c.args.out.now mid c.tell.new.self c.in-Ok.status c.in-Ok.ensures.told Device refl
+    rw (p.1, p.2) (end_cut contents (of_text c.args.question) c.args.site.now c.args.out.now mid c.tell.new.self c.in-Ok.status c.in-Ok.ensures.told Device refl
     (subst (Breaks (passed contents mid c.tell.new.self)) c.line_end.ensures c.in_err-tell-in-Ok.ensures.broken))
