@@ -182,12 +182,13 @@ class Layout:
         item.blank = not is_first and (word.comments[0].blank if word.comments else word.blank)
         item.gap = bool(word.comments) and word.blank
         word.comments = []
-        start = self.at
+        start, depth = self.at, self.depth
         try:
             read(item)
         except Odd:
-            if self.depth > 1:
+            if depth > 1:
                 raise
+            self.depth = depth
             self.at, self.words = start, words_of(self.text)
             self.word().comments = []
             self.as_written(item)
