@@ -26,6 +26,7 @@ def end_all():
     for process in STARTED:
         if process.poll() is None:
             process.kill()
+            process.wait()
 
 
 class Site:

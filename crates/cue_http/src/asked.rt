@@ -1,6 +1,11 @@
-use crate::question::{Answer, Course, Question, Wanted};
+ghost use Rattle.std.specs.Prelude.{◌≡◌, ◌≤◌, ◌⊎◌, [], None, IfSome};
+ghost use Rattle.std.specs.Duration.{as_nanos};
+
+use crate::question::{Answer, Course, Question, Unasked, Wanted};
 use crate::rounds::{Gathers, News};
 use crate::serving::Bounds;
+use cue_pieces::Cursor;
+use http::HeaderValue;
 use mio::Poll;
 use std::alloc::Global;
 use std::net::{Net, SocketAddr};
@@ -15,10 +20,10 @@ const MOST_PAUSE: u64 = 60;
 pub(crate) struct Asked {
     number: usize,
     at: SocketAddr,
-    /// The tag of the state that was taken last.
+    /// The tag of the state that was taken last. Where there is none it is asked with the site's own.
     tag: Vec<u8>,
     /// The place up to which its pieces were taken. Where there is none it is asked for its state.
-    cursor: Vec<u8>,
+    cursor: Option<Cursor>,
     next: Instant,
     pause: Duration,
     question: Option<Question>,
@@ -49,7 +54,7 @@ impl Asked {
             number,
             at,
             tag: Vec::new(alloc),
-            cursor: Vec::new(alloc),
+            cursor: None,
             next,
             pause,
             question: None,
@@ -71,17 +76,60 @@ impl Asked {
         if self.question.is_some() || now < self.next {
             return;
         }
-        let until = now.checked_add(bounds.idle).unwrap_or(now);
-        let token = token_of(self.number);
-        let wanted = if self.cursor.is_empty() {
-            Wanted::State(&self.tag)
-        } else {
-            Wanted::Pieces(&self.cursor)
-        };
-        match Question::begin(rt, rt.alloc(), poll, token, self.at, wanted, until) {
+        match self.ask(rt, poll, later(now, bounds.idle), service) {
             Ok(question) => self.question = Some(question),
-            Err(_) => self.failed(rt, now, service),
+            Err(Unasked::Refused) if self.remembers() => {
+                self.forget();
+                service.hear(News::Forgotten(self.number));
+            }
+            Err(_) => self.failed(rt, now, bounds, service),
         }
+    }
+
+    /// Asks, for an answer until this moment.
+    fn ask<H, S: Gathers>(
+        &self,
+        rt: &H,
+        poll: &Poll,
+        until: Instant,
+        service: &mut S,
+    ) -> Result<Question, Unasked>
+    where
+        H: AllocGlobal + Net,
+    {
+        let own = match self.remembers() {
+            true => None,
+            false => service.tag(),
+        };
+        let token = token_of(self.number);
+        let wanted = self.wanted(&own);
+        Question::begin(rt, rt.alloc(), poll, token, self.at, wanted, until)
+    }
+
+    /// What is asked for: the pieces behind the place that is remembered, or the state, unless it is
+    /// the one that was taken last, or the site's own.
+    fn wanted<'a>(&'a self, own: &'a Option<HeaderValue>) -> Wanted<'a>
+        ensures { IfSome self.now.cursor (λ cursor. result ≡ Wanted.Pieces cursor) }
+    {
+        match (self.cursor, own) {
+            (Some(cursor), _) => Wanted::Pieces(cursor),
+            (None, Some(own)) => Wanted::State(own.as_bytes()),
+            (None, None) => Wanted::State(&self.tag),
+        }
+    }
+
+    /// Whether something of its answers is remembered.
+    fn remembers(&self) -> bool {
+        !self.tag.is_empty() || self.cursor.is_some()
+    }
+
+    /// Forgets what it answered, so that it is asked from the start.
+    fn forget(&mut self)
+        ensures tag { self.new.tag.items ≡ [] }
+        ensures cursor { self.new.cursor ≡ None }
+    {
+        self.tag.clear();
+        self.cursor = None;
     }
 
     /// Goes on with the question, and takes what the answer brings.
@@ -110,45 +158,62 @@ impl Asked {
                 service.hear(News::Answered(self.number));
             }
             Outcome::Gone => {
-                self.cursor.clear();
+                self.forget();
                 self.next = now;
             }
-            Outcome::Failed => self.failed(rt, now, service),
+            Outcome::Failed => self.failed(rt, now, bounds, service),
         }
     }
 
     /// Takes what an answer brings.
     fn take<S: Gathers>(&mut self, question: &Question, service: &mut S) -> Outcome {
         match question.answer() {
-            Answer::State { bytes, tag } => {
+            Answer::State(bytes) => {
                 if !service.pulled(bytes) {
                     return Outcome::Failed;
                 }
-                remember(&mut self.tag, tag);
+                remember(&mut self.tag, question.tag());
             }
-            Answer::Same => {}
+            Answer::Same => remember(&mut self.tag, question.tag()),
             Answer::Pieces(bytes) => {
                 if !service.pulled_pieces(bytes) {
-                    self.cursor.clear();
+                    self.cursor = None;
                     return Outcome::Failed;
                 }
             }
             Answer::Gone => return Outcome::Gone,
             Answer::None => return Outcome::Failed,
         }
-        remember(&mut self.cursor, question.cursor());
+        self.cursor = question.cursor();
         Outcome::Taken
     }
 
     /// One that fails is asked less often.
-    fn failed<R: RandomSource, S: Gathers>(&mut self, rt: &R, now: Instant, service: &mut S) {
+    fn failed<R: RandomSource, S: Gathers>(
+        &mut self,
+        rt: &R,
+        now: Instant,
+        bounds: &Bounds,
+        service: &mut S,
+    )
+        ensures pause { as_nanos bounds.now.every ≤ as_nanos self.new.pause }
+        ensures tag { self.new.tag ≡ self.old.tag }
+        ensures cursor { self.new.cursor ≡ self.old.cursor }
+    {
         self.next = later(now, drawn(rt, self.pause));
-        self.pause = self
-            .pause
-            .saturating_mul(2)
-            .min(Duration::from_secs(MOST_PAUSE));
+        self.pause = longer(self.pause, bounds.every);
         service.hear(News::Failed(self.number));
     }
+}
+
+/// The pause behind a further failure: twice as long, up to a bound, and never shorter than that
+/// behind an answer.
+fn longer(pause: Duration, every: Duration) -> Duration
+    ensures least { as_nanos every ≤ as_nanos result }
+    ensures most { (result ≡ every) ⊎ (as_nanos result ≤ 60_000_000_000) }
+{
+    let twice = pause.saturating_mul(2).min(Duration::from_secs(MOST_PAUSE));
+    if twice < every { every } else { twice }
 }
 
 /// Remembers these bytes, or none where memory is wanting: then the question asks for more than it
@@ -160,7 +225,7 @@ fn remember(place: &mut Vec<u8>, bytes: &[u8]) {
     }
 }
 
-fn later(now: Instant, pause: Duration) -> Instant {
+pub(crate) fn later(now: Instant, pause: Duration) -> Instant {
     now.checked_add(pause).unwrap_or(now)
 }
 

@@ -4,6 +4,7 @@
 #![tactic(auto)]
 
 mod asked;
+mod ended;
 mod peer;
 mod peers;
 mod question;
@@ -11,5 +12,6 @@ mod rounds;
 mod serving;
 mod wait;
 
+pub use ended::Ended;
 pub use rounds::{Gathers, InRound, News};
 pub use serving::{Bounds, Source, serve};

@@ -1,3 +1,5 @@
+ghost use Rattle.std.specs.Prelude.{◌≡◌, ◌↔◌};
+
 use crate::peer::Peer;
 use crate::rounds::{Gathers, InRound};
 use crate::serving::Bounds;
@@ -6,6 +8,7 @@ use mio::net::{TcpListener, TcpStream};
 use mio::{Interest, Poll, Token};
 use std::alloc::{AllocError, Global};
 use std::hash::RandomState;
+use std::io::ErrorKind;
 use std::mem;
 use std::time::{Duration, Instant};
 
@@ -17,6 +20,29 @@ const MOST_NEW: usize = 64;
 
 /// Those whose time is over are looked for so often, in milliseconds.
 const TICK: u64 = 250;
+
+/// What came of taking the connections that wait.
+#[derive(Clone, Copy, Debug, PartialEq, Eq)]
+pub(crate) enum Taking {
+    /// None waits: the listener wakes the loop when one does.
+    All,
+    /// More may wait.
+    More,
+    /// The system refused one that waits still, as where no descriptor is free.
+    Refused,
+}
+
+/// What an `accept` that failed so says of those that wait: that none does, where it would block, and
+/// else that one does.
+fn taking_of(kind: ErrorKind) -> Taking
+    ensures all { (result ≡ Taking.All) ↔ (kind ≡ ErrorKind.WouldBlock) }
+    ensures refused { (result ≡ Taking.Refused) ↔ ¬ (kind ≡ ErrorKind.WouldBlock) }
+{
+    match kind {
+        ErrorKind::WouldBlock => Taking::All,
+        _ => Taking::Refused,
+    }
+}
 
 /// Room for a connection.
 #[derive(Drop)]
@@ -92,15 +118,15 @@ impl Peers {
         }
     }
 
-    /// Takes the connections that wait. Answers whether more may wait.
-    pub(crate) fn take(&mut self, poll: &Poll, listener: &TcpListener, now: Instant) -> bool {
+    /// Takes the connections that wait. Answers whether others wait still.
+    pub(crate) fn take(&mut self, poll: &Poll, listener: &TcpListener, now: Instant) -> Taking {
         for _ in 0..MOST_NEW {
             match listener.accept() {
                 Ok((stream, _)) => self.add(poll, stream, now),
-                Err(_) => return false,
+                Err(error) => return taking_of(error.kind()),
             }
         }
-        true
+        Taking::More
     }
 
     /// A connection that finds no place is closed.
@@ -221,7 +247,7 @@ impl Peers {
         let until = self.patience(now);
         for place in &self.listed {
             if let Some(Place::Taken(peer)) = self.places.get_mut(*place) {
-                if peer.wants_write() {
+                if peer.can_send() {
                     peer.send(until);
                 }
             }

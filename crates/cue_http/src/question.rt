@@ -1,12 +1,13 @@
-use http1::{BodySize, Client, Event, Header, Limits};
+use cue_pieces::Cursor;
+use http1::{BodySize, Client, Event, Header, Limits, WriteError};
 use httparse::spans::{EMPTY_HEADER_SPAN, HeaderSpan};
 use mio::net::TcpStream;
 use mio::{Interest, Poll, Token};
 use std::alloc::{AllocError, Global};
-use std::io;
 use std::io::{ErrorKind, Read, Write};
 use std::net::{Net, SocketAddr};
 use std::time::Instant;
+use std::{io, str};
 
 /// No answer of a source is longer.
 const MOST_BYTES: usize = 64 * 1024 * 1024;
@@ -33,13 +34,44 @@ pub(crate) enum Wanted<'a> {
     /// Its state, unless it is the one with this tag.
     State(&'a [u8]),
     /// The pieces that it accepted behind this place.
-    Pieces(&'a [u8]),
+    Pieces(Cursor),
+}
+
+/// Why a source was not asked.
+#[derive(Clone, Copy, Debug)]
+pub(crate) enum Unasked {
+    /// The request can't be written: the tag in it is none.
+    Refused,
+    OutOfMemory,
+    /// The system refused a connection.
+    System(io::Error),
+}
+
+impl From<AllocError> for Unasked {
+    fn from(_error: AllocError) -> Unasked {
+        Unasked::OutOfMemory
+    }
+}
+
+impl From<io::Error> for Unasked {
+    fn from(error: io::Error) -> Unasked {
+        Unasked::System(error)
+    }
+}
+
+impl From<WriteError> for Unasked {
+    fn from(error: WriteError) -> Unasked {
+        match error {
+            WriteError::OutOfMemory => Unasked::OutOfMemory,
+            _ => Unasked::Refused,
+        }
+    }
 }
 
 /// What a source answered.
 pub(crate) enum Answer<'a> {
-    /// Its state, with its tag.
-    State { bytes: &'a [u8], tag: &'a [u8] },
+    /// Its state.
+    State(&'a [u8]),
     /// Its state is the one that was asked about.
     Same,
     /// The pieces that were asked for.
@@ -75,7 +107,7 @@ fn target(alloc: Global, wanted: Wanted<'_>) -> Result<Vec<u8>, AllocError> {
         Wanted::State(_) => Vec::from_slice(alloc, b"/state"),
         Wanted::Pieces(cursor) => {
             let mut target = Vec::from_slice(alloc, b"/pieces?after=")?;
-            target.extend_from_slice(cursor)?;
+            target.extend_from_slice(cursor.text(alloc)?.as_bytes())?;
             Ok(target)
         }
     }
@@ -89,32 +121,26 @@ fn known(wanted: Wanted<'_>) -> Option<&[u8]> {
     }
 }
 
-fn ask(alloc: Global, client: &mut Client, wanted: Wanted<'_>) -> Result<Vec<u8>, AllocError> {
+/// The request that asks so.
+fn ask(alloc: Global, client: &mut Client, wanted: Wanted<'_>) -> Result<Vec<u8>, Unasked> {
     let mut question = Vec::new(alloc);
     let host = Header {
         name: b"host",
         value: b"site",
     };
     let target = target(alloc, wanted)?;
-    let written = match known(wanted) {
-        None => client.write_request(&mut question, b"GET", &target, &[host], BodySize::Empty),
+    match known(wanted) {
+        None => client.write_request(&mut question, b"GET", &target, &[host], BodySize::Empty)?,
         Some(tag) => {
             let none_match = Header {
                 name: b"if-none-match",
                 value: tag,
             };
-            client.write_request(
-                &mut question,
-                b"GET",
-                &target,
-                &[host, none_match],
-                BodySize::Empty,
-            )
+            let fields = [host, none_match];
+            client.write_request(&mut question, b"GET", &target, &fields, BodySize::Empty)?;
         }
-    };
-    if written.is_err() || client.write_end(&mut question, &[]).is_err() {
-        return Err(AllocError);
     }
+    client.write_end(&mut question, &[])?;
     Ok(question)
 }
 
@@ -136,7 +162,7 @@ impl Question {
         source: SocketAddr,
         wanted: Wanted<'_>,
         until: Instant,
-    ) -> io::Result<Question> {
+    ) -> Result<Question, Unasked> {
         let mut client = Client::new(Limits::default());
         let question = ask(alloc, &mut client, wanted)?;
         let mut stream = TcpStream::connect(net, source)?;
@@ -169,10 +195,7 @@ impl Question {
     /// What the whole answer says.
     pub(crate) fn answer(&self) -> Answer<'_> {
         match (self.for_pieces, self.course, self.code) {
-            (false, Course::Answered, 200) => Answer::State {
-                bytes: &self.body,
-                tag: &self.tag,
-            },
+            (false, Course::Answered, 200) => Answer::State(&self.body),
             (false, Course::Answered, 304) => Answer::Same,
             (true, Course::Answered, 200) => Answer::Pieces(&self.body),
             (true, Course::Answered | Course::Unfit, _) => Answer::Gone,
@@ -181,9 +204,14 @@ impl Question {
     }
 
     /// The place behind all pieces that the source had accepted as it answered; none where it named
-    /// none.
-    pub(crate) fn cursor(&self) -> &[u8] {
-        &self.cursor
+    /// none, in the form `RUN-N`.
+    pub(crate) fn cursor(&self) -> Option<Cursor> {
+        Cursor::read(str::from_utf8(&self.cursor).ok()?)
+    }
+
+    /// The tag of the state that it had as it answered.
+    pub(crate) fn tag(&self) -> &[u8] {
+        &self.tag
     }
 
     /// Goes on as far as the socket lets it.
@@ -259,6 +287,8 @@ impl Question {
             let Ok(progress) = self.client.read(rest, &mut spans) else {
                 return Err(ErrorKind::InvalidData.into());
             };
+            // Also where more has to come, as within the line that has the size of a chunk.
+            used += progress.consumed;
             match progress.event {
                 Event::Head(head) => {
                     self.code = head.code;
@@ -281,7 +311,6 @@ impl Question {
                 Event::Informational(_) => {}
                 _ => break,
             }
-            used += progress.consumed;
         }
         if used > 0 {
             let rest = match self.input.get(used..) {

@@ -4,10 +4,11 @@ ghost use Rattle.http_server.specs.declared.response.Response.{Response};
 
 use crate::wait::{Wait, asked_again};
 use bytes::Bytes;
-use http::Request;
+use http::{HeaderValue, Request};
 use http_server::{Response, Service, Settle};
 use log::Log;
 use std::alloc::{AllocError, Global};
+use std::io;
 
 /// What the loop tells the site of, for what it answers of itself. Times are in seconds since the
 /// start.
@@ -26,6 +27,8 @@ pub enum News {
     Answered(usize),
     /// The source with this number could not be asked, or gave no answer.
     Failed(usize),
+    /// No request can carry the tag of the source with this number, so it is forgotten.
+    Forgotten(usize),
 }
 
 /// What takes the states of other sites, and tells when its answers are others.
@@ -44,6 +47,12 @@ pub trait Gathers {
 
     /// A number that is another one as soon as the answers are others.
     fn edition(&mut self) -> u64;
+
+    /// The tag of the state that is had, where memory suffices for it.
+    fn tag(&mut self) -> Option<HeaderValue>;
+
+    /// Why the last `settle` failed.
+    fn fault(&mut self) -> io::Error;
 
     /// Hears what happened.
     fn hear(&mut self, news: News);

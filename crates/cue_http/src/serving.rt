@@ -1,14 +1,15 @@
-use crate::asked::{Asked, token_of};
-use crate::peers::{LISTENER, Peers, add};
+ghost use Rattle.std.specs.Prelude.{◌≤◌, IfOk};
+
+use crate::asked::{Asked, later, token_of};
+use crate::ended::{Ended, called};
+use crate::peers::{LISTENER, Peers, Taking, add};
 use crate::rounds::{Gathers, InRound, News};
 use http_server::{Config, Settle};
 use log::Log;
 use mio::net::TcpListener;
 use mio::{Events, Interest, Poll, Token};
-use std::alloc::Global;
+use std::alloc::{AllocError, Global};
 use std::hash::RandomState;
-use std::io;
-use std::io::ErrorKind;
 use std::net::{Net, SocketAddr};
 use std::random::RandomSource;
 use std::time::{Clock, Duration, Instant};
@@ -18,6 +19,9 @@ const TICK: u64 = 250;
 
 /// So many events are told at once.
 const MOST_EVENTS: usize = 1024;
+
+/// So many waits for sockets may fail one after the other. A round follows each of them.
+const MOST_FAILURES: u64 = 16;
 
 /// What one process takes on.
 #[derive(Clone, Copy, Debug, PartialEq, Eq)]
@@ -46,8 +50,10 @@ struct Loop<S> {
     asked: Vec<Asked>,
     service: InRound<S>,
     bounds: Bounds,
-    /// More connections may wait to be taken.
-    waiting: bool,
+    /// What came of taking connections last.
+    taking: Taking,
+    /// When one that the system refused is taken again.
+    again: Instant,
     /// Something can go on without a wait.
     busy: bool,
 }
@@ -56,7 +62,8 @@ struct Loop<S> {
 ///
 /// # Errors
 ///
-/// As the system's, and `Other` where a round does not stand. Its clients are dropped unanswered.
+/// The call of the system that failed, or why a round failed to settle. Its clients are dropped
+/// unanswered.
 pub fn serve<H, S, L>(
     rt: &H,
     log: &L,
@@ -65,41 +72,56 @@ pub fn serve<H, S, L>(
     sources: &[Source],
     service: S,
     rounds: u64,
-) -> io::Result<()>
+) -> Result<(), Ended>
 where
     H: AllocGlobal + Net + Clock + RandomSource,
     S: Settle + Gathers + Drop,
     L: Log,
 {
-    let alloc: Global = rt.alloc();
-    let mut poll = Poll::new(rt)?;
-    poll.registry()
-        .register(&mut listener, Token(LISTENER), Interest::READABLE)?;
-    let mut events = Events::with_capacity(alloc, MOST_EVENTS)?;
-    let start = Instant::now(rt)?;
-    let mut state = Loop {
-        peers: Peers::new(alloc, RandomState::new(rt)?, bounds, start),
-        asked: asked_of(alloc, sources, start, bounds.every)?,
-        service: InRound::new(alloc, service),
-        bounds,
-        waiting: true,
-        busy: true,
-    };
+    let mut poll = called("epoll_create", Poll::new(rt))?;
+    let registered = poll
+        .registry()
+        .register(&mut listener, Token(LISTENER), Interest::READABLE);
+    called("epoll_ctl", registered)?;
+    let mut events = Events::with_capacity(rt.alloc(), MOST_EVENTS)?;
+    let start = called("clock_gettime", Instant::now(rt))?;
+    let keys = called("getrandom", RandomState::new(rt))?;
+    let mut state = Loop::new(rt.alloc(), keys, bounds, sources, service, start)?;
+    let mut failures = 0u64;
     for _ in 0..rounds {
-        poll.poll(&mut events, Some(state.wait()))?;
+        failures = wait_for_sockets(&mut poll, &mut events, state.wait(), failures)?;
         for event in &events {
             let Token(token) = event.token();
             state.wake(token);
         }
-        let now = Instant::now(rt)?;
-        state
-            .service
-            .inner
-            .hear(News::Now(now.saturating_duration_since(start).as_secs()));
-        state.round(rt, &poll, &listener, now)?;
+        let now = called("clock_gettime", Instant::now(rt))?;
+        let seconds = now.saturating_duration_since(start).as_secs();
+        state.service.inner.hear(News::Now(seconds));
+        let settled = state.round(rt, &poll, &listener, now);
         state.service.inner.report(log);
+        settled?;
     }
     Ok(())
+}
+
+/// Waits for sockets, behind so many waits that failed one after the other. Answers how many have.
+///
+/// # Errors
+///
+/// That of the wait, once too many have failed.
+fn wait_for_sockets(
+    poll: &mut Poll,
+    events: &mut Events,
+    most: Duration,
+    failures: u64,
+) -> Result<u64, Ended>
+    ensures { IfOk result (λ failed. failed ≤ 16) }
+{
+    match poll.poll(events, Some(most)) {
+        Ok(()) => Ok(0),
+        Err(error) if failures >= MOST_FAILURES => Err(Ended::System("epoll_wait", error)),
+        Err(_) => Ok(failures + 1),
+    }
 }
 
 fn asked_of(
@@ -107,12 +129,34 @@ fn asked_of(
     sources: &[Source],
     now: Instant,
     every: Duration,
-) -> io::Result<Vec<Asked>> {
+) -> Result<Vec<Asked>, AllocError> {
     let mut asked = Vec::new(alloc);
     for (number, source) in sources.iter().enumerate() {
         add(&mut asked, Asked::new(alloc, number, source.at, now, every))?;
     }
     Ok(asked)
+}
+
+impl<S: Drop> Loop<S> {
+    /// One without a connection, from this moment on.
+    fn new(
+        alloc: Global,
+        keys: RandomState,
+        bounds: Bounds,
+        sources: &[Source],
+        service: S,
+        start: Instant,
+    ) -> Result<Loop<S>, AllocError> {
+        Ok(Loop {
+            peers: Peers::new(alloc, keys, bounds, start),
+            asked: asked_of(alloc, sources, start, bounds.every)?,
+            service: InRound::new(alloc, service),
+            bounds,
+            taking: Taking::More,
+            again: start,
+            busy: true,
+        })
+    }
 }
 
 impl<S: Settle + Gathers> Loop<S> {
@@ -126,26 +170,41 @@ impl<S: Settle + Gathers> Loop<S> {
 
     fn wake(&mut self, token: usize) {
         if token == LISTENER {
-            self.waiting = true;
+            self.taking = Taking::More;
         } else if token < token_of(self.asked.len()) {
             self.peers.wake(token);
         }
     }
 
+    /// Takes the connections that wait, where some may.
+    fn take(&mut self, poll: &Poll, listener: &TcpListener, now: Instant) {
+        let is_due = match self.taking {
+            Taking::All => false,
+            Taking::More => true,
+            Taking::Refused => self.again <= now,
+        };
+        if is_due {
+            self.taking = self.peers.take(poll, listener, now);
+            self.again = later(now, Duration::from_millis(TICK));
+        }
+    }
+
     /// Reads what has come, has it answered and settled, and then sends the answers.
+    ///
+    /// # Errors
+    ///
+    /// `Unsettled`: nothing was sent.
     fn round<H>(
         &mut self,
         rt: &H,
         poll: &Poll,
         listener: &TcpListener,
         now: Instant,
-    ) -> io::Result<()>
+    ) -> Result<(), Ended>
     where
         H: AllocGlobal + Net + RandomSource,
     {
-        if self.waiting {
-            self.waiting = self.peers.take(poll, listener, now);
-        }
+        self.take(poll, listener, now);
         for asked in &mut self.asked {
             asked.begin(rt, poll, now, &self.bounds, &mut self.service.inner);
             asked.step(rt, now, &self.bounds, &mut self.service.inner);
@@ -162,10 +221,10 @@ impl<S: Settle + Gathers> Loop<S> {
         // What does not stand must not be told, nor what follows it: a new start reads the files
         // again.
         if !self.service.inner.settle() {
-            return Err(ErrorKind::Other.into());
+            return Err(Ended::Unsettled(self.service.inner.fault()));
         }
         self.peers.send(now);
-        self.busy = self.peers.close() || self.waiting;
+        self.busy = self.peers.close() || self.taking == Taking::More;
         Ok(())
     }
 }

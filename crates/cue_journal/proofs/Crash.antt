@@ -2,11 +2,11 @@
 use Rattle.std.proofs.Common.{◌≡◌, ◌≢◌, ℕ, ◌+◌, ◌-◌, take, List, [], ◌∷◌, ◌++◌, length, drop, get_or, refl, sym, ◌∙◌, ap, subst, inl, inr, ◌⊎◌, arith, append_assoc, length-append}
 use Rattle.std.proofs.lemmas.Bool.{cases_eq}
 use Rattle.std.proofs.lemmas.List.{take_rest}
-use Rattle.sqlite_disk.specs.Disk.{Holds, Torn, Follows, Only}
+use Rattle.sqlite_disk.specs.Disk.{Holds, Torn, Cut, Follows, Only}
 use Rattle.cue_journal.specs.Blocks.{recovered, StandsFor}
 use Rattle.cue_journal.specs.Settled.{IsSettled, IsStaged, IsBatch, IsBeforeOrAfter}
 use Rattle.cue_journal.proofs.Reading.{stands_closed, stands_more}
-use Rattle.cue_journal.proofs.Torn.{torn_behind, written_behind, torn_gate}
+use Rattle.cue_journal.proofs.Torn.{torn_behind, cut_behind, written_behind, torn_gate}
 
 -- a torn write behind the gate changes nothing that counts
 pub stage_torn : (seen : List ℕ) (may : List ℕ → Type 0) (end n : ℕ) (c : List ℕ) → (s : IsSettled seen may end) → Torn (end + 1) n seen c → recovered c ≡ recovered seen
@@ -97,3 +97,51 @@ committed seen may front batch junk ps end stands b some size is only =
 -- what is staged of a batch with a closed gate behind it
 pub tail_is : (bytes batch : List ℕ) → bytes ≡ batch ++ 0 ∷ [] → take (length bytes - 1) (drop 1 bytes) ≡ drop 1 (batch ++ 0 ∷ [])
 tail_is bytes batch is = take_rest bytes 1 ∙ ap (drop 1) is
+
+-- what stands behind the gate doesn't count
+behind_shut : (seen new : List ℕ) (may : List ℕ → Type 0) (end : ℕ) → (s : IsSettled seen may end) → new ≡ s.front ++ s.gate ∷ drop (length s.front + 1) new → recovered new ≡ recovered seen
+behind_shut seen new may end s is = ap recovered is ∙ stands_closed s.front (recovered seen) s.gate (drop (length s.front + 1) new) s.stands s.shut
+
+settled_behind : (seen new : List ℕ) (may after : List ℕ → Type 0) (end : ℕ) → (s : IsSettled seen may end) → new ≡ s.front ++ s.gate ∷ drop (length s.front + 1) new → Only new after
+    → IsSettled new after end × (recovered new ≡ recovered seen)
+settled_behind seen new may after end s is only =
+    let same : recovered new ≡ recovered seen = behind_shut seen new may end s is in (
+      record {
+        front = s.front;
+        gate = s.gate;
+        junk = drop (length s.front + 1) new;
+        file = is;
+        shut = s.shut;
+        size = s.size;
+        stands = subst (StandsFor s.front) (sym same) s.stands;
+        durable = only;
+      },
+      same,
+    )
+
+torn_shape : (seen new : List ℕ) (may : List ℕ → Type 0) (end n : ℕ) → (s : IsSettled seen may end) → Torn (end + 1) n seen new → new ≡ s.front ++ s.gate ∷ drop (length s.front + 1) new
+torn_shape seen new may end n s torn =
+    torn_behind s.front s.junk new s.gate n (subst (λ e. Torn (e + 1) n (s.front ++ s.gate ∷ s.junk) new) s.size (subst (λ f. Torn (end + 1) n f new) s.file torn))
+
+cut_shape : (seen mid new : List ℕ) (may : List ℕ → Type 0) (end n : ℕ) → (s : IsSettled seen may end) → Torn (end + 1) n seen mid → Cut (end + 1) mid new
+    → new ≡ s.front ++ s.gate ∷ drop (length s.front + 1) new
+cut_shape seen mid new may end n s torn cut =
+    let shape = torn_shape seen mid may end n s torn in
+    cut_behind s.front (drop (length s.front + 1) mid) new s.gate (end + 1) (omega (arith, s.size)) (subst (λ f. Cut (end + 1) f new) shape cut)
+
+-- bytes behind the gate that don't count
+pub filled : (seen new : List ℕ) (may after : List ℕ → Type 0) (end n : ℕ) → (s : IsSettled seen may end) → Torn (end + 1) n seen new → Only new after
+    → IsSettled new after end × (recovered new ≡ recovered seen)
+filled seen new may after end n s torn only = settled_behind seen new may after end s (torn_shape seen new may end n s torn) only
+
+-- and are cut off again
+pub cut_off : (seen mid new : List ℕ) (may after : List ℕ → Type 0) (end n : ℕ) → (s : IsSettled seen may end) → Torn (end + 1) n seen mid → Cut (end + 1) mid new → Only new after
+    → IsSettled new after end × (recovered new ≡ recovered seen)
+cut_off seen mid new may after end n s torn cut only = settled_behind seen new may after end s (cut_shape seen mid new may end n s torn cut) only
+
+pub cut_crash : (seen : List ℕ) (may between after : List ℕ → Type 0) (end n : ℕ) → IsSettled seen may end → Follows (Torn (end + 1) n) may between → Follows (Cut (end + 1)) between after
+    → (c : List ℕ) → after c → recovered c ≡ recovered seen
+cut_crash seen may between after end n s torn cut c left =
+    let from = cut c left in
+    let first = torn from.0 from.1 in
+    behind_shut seen c may end s (cut_shape seen from.0 c may end n s (subst (λ f. Torn (end + 1) n f from.0) (s.durable first.0 first.1) first.2) from.2)

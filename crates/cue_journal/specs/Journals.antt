@@ -1,9 +1,15 @@
 use Rattle.std.specs.Prelude.{Bool, ◌≡◌, ℕ, List, true}
 use Rattle.cue_journal.specs.declared.journal.Journal.{Journal}
+use Rattle.cue_journal.specs.declared.journal.Room.{Room}
+use Rattle.cue_journal.specs.declared.journal.Room.TheVariants.{Enough, Refused}
 use Rattle.cue_journal.specs.Settled.{IsSettled}
 
 abbrev pub disk_of : {D : Type 0} → Journal D → D
 disk_of j = j.disk
+
+-- how many bytes the blocks that count have
+abbrev pub end_of : {D : Type 0} → Journal D → ℕ
+end_of j = j.end
 
 -- no commit of it has failed
 abbrev pub is_open : {D : Type 0} → Journal D → Bool
@@ -13,3 +19,8 @@ is_open j = j.open
 pub record IsReady {D : Type 0} (seen : D → List ℕ) (may_leave : D → List ℕ → Type 0) (j : Journal D) : Type 0 where
   pub settled : IsSettled (seen j.disk) (may_leave j.disk) j.end
   pub open_still : j.open ≡ true
+
+-- the disk had room
+abbrev pub IsEnough : Room → Type 0
+IsEnough Enough = Unit {0}
+IsEnough (Refused error) = ⊥

@@ -40,6 +40,43 @@ fn stage<D: Disk>(disk: &mut D, end: usize, bytes: &[u8]) -> io::Result<()>
     Ok(())
 }
 
+/// Whether a disk had room for what was written behind a gate.
+#[derive(Clone, Copy, Debug)]
+pub enum Room {
+    Enough,
+    /// The write failed, with this error, and changed nothing that counts.
+    Refused(io::Error),
+}
+
+/// Writes bytes behind the closed gate, where they don't count, and has the disk keep whatever came
+/// of it.
+///
+/// # Errors
+///
+/// Those of the sync.
+fn fill<D: Disk>(disk: &mut D, end: usize, bytes: &[u8]) -> io::Result<Room>
+    requires usable { IsTrue (D.is_usable disk.old) }
+    requires end { end ≤ MOST }
+    ensures crash { (s : IsSettled (D.seen disk.old) (D.may_leave disk.old) end) → (c : List ℕ)
+        → D.may_leave disk.new c → recovered c ≡ recovered (D.seen disk.old) }
+    ensures ok { OnOk result (IsSettled (D.seen disk.old) (D.may_leave disk.old) end
+        → IsSettled (D.seen disk.new) (D.may_leave disk.new) end
+        × (recovered (D.seen disk.new) ≡ recovered (D.seen disk.old))) }
+{
+    match disk.write_at(end + 1, bytes) {
+        Ok(()) => {
+            disk.sync()?;
+            Ok(Room::Enough)
+        }
+        Err(error) => {
+            // What was written of it takes room that others may need.
+            let _cut = disk.set_len(end + 1);
+            disk.sync()?;
+            Ok(Room::Refused(error))
+        }
+    }
+}
+
 /// Opens the gate, and has it reach the disk: from then on the blocks behind it count.
 fn open_gate<D: Disk>(disk: &mut D, end: usize) -> io::Result<()>
     requires usable { IsTrue (D.is_usable disk.old) }
@@ -70,7 +107,7 @@ fn close_first<D: Disk>(disk: &mut D) -> io::Result<()>
 }
 
 impl<D: Disk> Journal<D> {
-    ghost use Rattle.cue_journal.specs.Journals.{disk_of, is_open, IsReady};
+    ghost use Rattle.cue_journal.specs.Journals.{disk_of, end_of, is_open, IsReady};
 
     /// Adds the pieces of a batch, all of them or none. At `Ok` they are acknowledged: from then on
     /// each crash leaves a file that has them. At `Err` the journal is to be opened again. The
@@ -125,8 +162,39 @@ impl<D: Disk> Journal<D> {
         Ok(())
     }
 
+    /// Has the disk allot room for a batch behind the blocks that count, by writing it there, where
+    /// it doesn't count. Answers whether there was room.
+    ///
+    /// # Errors
+    ///
+    /// The journal is to be opened again.
+    pub fn reserve(&mut self, batch: &Batch) -> io::Result<Room>
+        ensures same { OnOk result (IsReady D.Disk.seen D.Disk.may_leave self.old
+            → IsReady D.Disk.seen D.Disk.may_leave self.new
+            × (recovered (D.Disk.seen (disk_of self.new)) ≡ recovered (D.Disk.seen (disk_of self.old)))) }
+
+        // A crash at this moment leaves the entries as they were.
+        ensures crash { IsReady D.Disk.seen D.Disk.may_leave self.old
+            → (c : List ℕ) → D.Disk.may_leave (disk_of self.new) c
+            → recovered c ≡ recovered (D.Disk.seen (disk_of self.old)) }
+        ensures open { OnOk result ((is_open self.old ≡ true) × (is_open self.new ≡ true)) }
+        ensures closed { OnErr result (is_open self.new ≡ false) }
+        ensures len { end_of self.new ≡ end_of self.old }
+    {
+        let was_open = self.open;
+        self.open = false;
+        if !was_open || !self.disk.may_be_used() || self.end > MOST {
+            return Err(ErrorKind::Other.into());
+        }
+        let room = fill(&mut self.disk, self.end, &batch.bytes)?;
+        self.open = true;
+        Ok(room)
+    }
+
     /// How many bytes the blocks that count have.
-    pub fn len(&self) -> usize {
+    pub fn len(&self) -> usize
+        ensures { result ≡ end_of self.now }
+    {
         self.end
     }
 

@@ -6,5 +6,5 @@ mod journal;
 mod pair;
 
 pub use blocks::{Batch, Unfit, read_pieces};
-pub use journal::{Journal, recover};
+pub use journal::{Journal, Room, recover};
 pub use pair::Pair;

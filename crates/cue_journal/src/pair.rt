@@ -4,7 +4,7 @@ ghost use Rattle.cue_journal.specs.Settled.{IsBatch};
 ghost use Rattle.cue_journal.specs.Batches.{batch_bytes};
 
 use crate::blocks::Batch;
-use crate::journal::Journal;
+use crate::journal::{Journal, Room};
 use sqlite_disk::Disk;
 use std::io;
 use std::io::ErrorKind;
@@ -18,9 +18,10 @@ pub struct Pair<D: Disk> {
 }
 
 impl<D: Disk> Pair<D> {
-    ghost use Rattle.cue_journal.specs.Journals.{IsReady, disk_of};
+    ghost use Rattle.cue_journal.specs.Journals.{IsReady, disk_of, end_of};
     ghost use Rattle.cue_journal.specs.Pairs.{growing_of, spare_of, is_whole, entries_of};
     ghost use Rattle.cue_journal.specs.Pairs.{IsPairReady, MayLeave, IsCommitted, IsCondensed};
+    ghost use Rattle.cue_journal.specs.Journals.{IsEnough};
 
     /// Two journals that were recovered.
     pub fn new(growing: Journal<D>, spare: Journal<D>) -> Pair<D>
@@ -31,7 +32,9 @@ impl<D: Disk> Pair<D> {
     }
 
     /// How many bytes the journal that grows has.
-    pub fn grown(&self) -> usize {
+    pub fn grown(&self) -> usize
+        ensures { result ≡ end_of (growing_of self.now) }
+    {
         self.growing.len()
     }
 
@@ -67,18 +70,29 @@ impl<D: Disk> Pair<D> {
     }
 
     /// Puts the entries of a batch, which stand for all there are, in the place of those of the
-    /// journal that grows. The batch is empty afterwards.
+    /// journal that grows, which then is the spare one. The batch is empty afterwards. Where the disk
+    /// refuses room for it all stays as it was.
     ///
     /// # Errors
     ///
     /// From then on each call fails.
-    pub fn condense(&mut self, batch: &mut Batch) -> io::Result<()>
-        ensures condensed { OnOk result (IsPairReady D.Disk.seen D.Disk.may_leave self.old
+    pub fn condense(&mut self, batch: &mut Batch) -> io::Result<Room>
+        ensures condensed { IfOk result (λ room. IsEnough room
+            → IsPairReady D.Disk.seen D.Disk.may_leave self.old
             → IsBatch (batch_bytes batch.old)
             → IsPairReady D.Disk.seen D.Disk.may_leave self.new
             × (entries_of D.Disk.seen self.new
             ≡ recovered (D.Disk.seen (disk_of (spare_of self.old)))
             ++ recovered (batch_bytes batch.old))) }
+
+        // The two change places: the spare one has no entry then.
+        ensures changed { IfOk result (λ room. IsEnough room
+            → IsPairReady D.Disk.seen D.Disk.may_leave self.old
+            → recovered (D.Disk.seen (disk_of (spare_of self.new))) ≡ []) }
+        ensures kept { IfOk result (λ room. ¬ IsEnough room
+            → IsPairReady D.Disk.seen D.Disk.may_leave self.old
+            → IsPairReady D.Disk.seen D.Disk.may_leave self.new
+            × (entries_of D.Disk.seen self.new ≡ entries_of D.Disk.seen self.old)) }
 
         // A crash at this moment leaves the entries from before, or the batch in the place of those
         // of the journal that grew, or both.
@@ -92,9 +106,24 @@ impl<D: Disk> Pair<D> {
         ensures broken { OnErr result (is_whole self.new ≡ false) }
         ensures empty { batch_bytes batch.new ≡ [] }
     {
+        if !self.growing.is_open() {
+            batch.clear();
+            return Err(ErrorKind::Other.into());
+        }
+        match self.spare.reserve(batch) {
+            Ok(Room::Enough) => {}
+            Ok(refused) => {
+                batch.clear();
+                return Ok(refused);
+            }
+            Err(error) => {
+                batch.clear();
+                return Err(error);
+            }
+        }
         self.spare.commit(batch)?;
         self.growing.clear()?;
         std::mem::swap(&mut self.growing, &mut self.spare);
-        Ok(())
+        Ok(Room::Enough)
     }
 }

@@ -1,14 +1,14 @@
 -- Pieces that are added, taken back and given up.
-use Rattle.std.proofs.Common.{◌≡◌, ℕ, zero, suc, ◌+◌, ◌-◌, ◌<◌, ◌≤◌, ◌^◌, List, [], ◌∷◌, ◌++◌, length, drop, refl, sym, ◌∙◌, ap, subst, arith, length-append, length-drop}
+use Rattle.std.proofs.Common.{◌≡◌, inr, ℕ, zero, suc, ◌+◌, ◌-◌, ◌<◌, ◌≤◌, ◌^◌, List, [], ◌∷◌, ◌++◌, length, drop, refl, sym, ◌∙◌, ap, subst, arith, length-append, length-drop}
 use Rattle.std.specs.List.{AllByRecursion}
 use Rattle.cue_journal.specs.Blocks.{Fits}
 use Rattle.cue_pieces.specs.Inner.{AreSound}
-use Rattle.cue_pieces.specs.Listed.{Listed, GivesUp}
-use Rattle.cue_pieces.specs.Lists.{total}
+use Rattle.cue_pieces.specs.Listed.{Listed, GivesUp, GivesUpBeyond}
+use Rattle.cue_pieces.specs.Lists.{weight}
 
-total_push : (entries : List (List ℕ)) (last : List ℕ) → total (entries ++ last ∷ []) ≡ total entries + length last
-total_push [] last = omega arith
-total_push (entry ∷ entries) last = omega (arith, total_push entries last)
+weight_push : (entries : List (List ℕ)) (last : List ℕ) → weight (entries ++ last ∷ []) ≡ weight entries + (length last + 128)
+weight_push [] last = omega arith
+weight_push (entry ∷ entries) last = omega (arith, weight_push entries last)
 
 fit_push : (entries : List (List ℕ)) (last : List ℕ) → AllByRecursion Fits entries → Fits last → AllByRecursion Fits (entries ++ last ∷ [])
 fit_push [] last fit fits = (fits, tt)
@@ -19,36 +19,36 @@ fit_front [] last fit = tt
 fit_front (entry ∷ entries) last fit = (fit.0, fit_front entries last fit.1)
 
 pub sound_more : (given_up size size' : ℕ) (kept kept' : List (List ℕ)) (entry : List ℕ) → AreSound given_up size kept → Fits entry
-    → given_up + length kept + 1 < 2 ^ 64 → size' ≡ size + length entry → kept' ≡ kept ++ entry ∷ [] → AreSound given_up size' kept'
+    → given_up + length kept + 1 < 2 ^ 64 → size' ≡ size + (length entry + 128) → kept' ≡ kept ++ entry ∷ [] → AreSound given_up size' kept'
 sound_more given_up size size' kept kept' entry sound fits count is_size is =
     subst (AreSound given_up size') (sym is) (record {
       fit = fit_push kept entry sound.fit fits;
       count = omega (arith, count, length-append kept (entry ∷ []));
-      size_is = omega (arith, is_size, sound.size_is, total_push kept entry);
+      size_is = omega (arith, is_size, sound.size_is, weight_push kept entry);
     })
 
-pub last_size : (given_up size : ℕ) (kept kept' : List (List ℕ)) (last : List ℕ) → AreSound given_up size kept → kept ≡ kept' ++ last ∷ [] → length last ≤ size
-last_size given_up size kept kept' last sound is = omega (arith, sound.size_is, ap total is, total_push kept' last)
+pub last_size : (given_up size : ℕ) (kept kept' : List (List ℕ)) (last : List ℕ) → AreSound given_up size kept → kept ≡ kept' ++ last ∷ [] → length last + 128 ≤ size
+last_size given_up size kept kept' last sound is = omega (arith, sound.size_is, ap weight is, weight_push kept' last)
 
 pub sound_without_last : (given_up size size' : ℕ) (kept kept' : List (List ℕ)) (last : List ℕ) → AreSound given_up size kept → kept ≡ kept' ++ last ∷ []
-    → size' ≡ size - length last → AreSound given_up size' kept'
+    → size' ≡ size - (length last + 128) → AreSound given_up size' kept'
 sound_without_last given_up size size' kept kept' last sound is is_size = record {
   fit = fit_front kept' last (subst (AllByRecursion Fits) is sound.fit);
   count = omega (arith, sound.count, ap length is, length-append kept' (last ∷ []));
-  size_is = omega (arith, is_size, sound.size_is, ap total is, total_push kept' last);
+  size_is = omega (arith, is_size, sound.size_is, ap weight is, weight_push kept' last);
 }
 
-pub first_size : (given_up size : ℕ) (kept kept' : List (List ℕ)) (first : List ℕ) → AreSound given_up size kept → kept ≡ first ∷ kept' → length first ≤ size
-first_size given_up size kept kept' first sound is = omega (arith, sound.size_is, ap total is)
+pub first_size : (given_up size : ℕ) (kept kept' : List (List ℕ)) (first : List ℕ) → AreSound given_up size kept → kept ≡ first ∷ kept' → length first + 128 ≤ size
+first_size given_up size kept kept' first sound is = omega (arith, sound.size_is, ap weight is)
 
 pub sound_without_first : (given_up size size' : ℕ) (kept kept' : List (List ℕ)) (first : List ℕ) → AreSound given_up size kept → kept ≡ first ∷ kept'
-    → size' ≡ size - length first → AreSound (given_up + 1) size' kept'
+    → size' ≡ size - (length first + 128) → AreSound (given_up + 1) size' kept'
 sound_without_first given_up size size' kept kept' first sound is is_size =
     let fit : AllByRecursion Fits (first ∷ kept') = subst (AllByRecursion Fits) is sound.fit in
     record {
       fit = fit.1;
       count = omega (arith, sound.count, ap length is);
-      size_is = omega (arith, is_size, sound.size_is, ap total is);
+      size_is = omega (arith, is_size, sound.size_is, ap weight is);
     }
 
 drop_one : {X : Type 0} (n : ℕ) (xs : List X) → drop (suc n) xs ≡ drop 1 (drop n xs)
@@ -88,4 +88,25 @@ one_given_up old run given_up given_up' kept kept' first gives is is_count =
       gives.0 + 1,
       omega (arith, gives.1, ap length is, ap length kept_is, length-drop gives.0 old.kept),
       same run_is number_is rest_is,
+    )
+
+back : (n : ℕ) → n ≡ n + 1 - 1
+back n = omega arith
+
+-- as there were too many bytes
+pub one_given_up_beyond : (most : ℕ) (old : Listed) (run given_up given_up' size : ℕ) (kept kept' : List (List ℕ)) (first : List ℕ)
+    → GivesUpBeyond most old (record { run = run; given_up = given_up; kept = kept }) → AreSound given_up size kept → most < size
+    → kept ≡ first ∷ kept' → given_up' ≡ given_up + 1 → GivesUpBeyond most old (record { run = run; given_up = given_up'; kept = kept' })
+one_given_up_beyond most old run given_up given_up' size kept kept' first gives sound more is is_count =
+    let run_is : run ≡ old.run = ap (λ (l : Listed). l.run) gives.2 in
+    let count_is : given_up ≡ old.given_up + gives.0 = ap (λ (l : Listed). l.given_up) gives.2 in
+    let kept_is : kept ≡ drop gives.0 old.kept = ap (λ (l : Listed). l.kept) gives.2 in
+    let rest_is : kept' ≡ drop (gives.0 + 1) old.kept = sym (ap (drop 1) is) ∙ ap (drop 1) kept_is ∙ sym (drop_one gives.0 old.kept) ∙ ap (λ n. drop n old.kept) (step gives.0) in
+    let number_is : given_up' ≡ old.given_up + (gives.0 + 1) = omega (arith, is_count, count_is) in
+    let weighs : most < weight kept = omega (arith, more, sound.size_is) in
+    let beyond : most < weight (drop gives.0 old.kept) = subst (λ (l : List (List ℕ)). most < weight l) kept_is weighs in (
+      gives.0 + 1,
+      omega (arith, gives.1, ap length is, ap length kept_is, length-drop gives.0 old.kept),
+      same run_is number_is rest_is,
+      inr (subst (λ n. most < weight (drop n old.kept)) (back gives.0) beyond),
     )

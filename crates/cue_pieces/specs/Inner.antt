@@ -2,9 +2,9 @@
 use Rattle.std.specs.Prelude.{◌≡◌, ◌+◌, ◌<◌, ◌^◌, ℕ, List, length}
 use Rattle.std.specs.List.{AllByRecursion}
 use Rattle.cue_journal.specs.Blocks.{Fits}
-use Rattle.cue_pieces.specs.Lists.{total}
+use Rattle.cue_pieces.specs.Lists.{weight}
 
 pub record AreSound (given_up size : ℕ) (kept : List (List ℕ)) : Type 0 where
   pub fit : AllByRecursion Fits kept
   pub count : given_up + length kept < 2 ^ 64
-  pub size_is : size ≡ total kept
+  pub size_is : size ≡ weight kept

@@ -1,7 +1,7 @@
 -- The pieces that a site accepted in one run, as entries. The oldest are given up, and the others
 -- kept.
 use Rattle.std.specs.Prelude.{◌≡◌, ◌⊎◌, ◌+◌, ◌-◌, ◌≤◌, ◌<◌, ℕ, List, length, drop}
-use Rattle.cue_pieces.specs.Lists.{total}
+use Rattle.cue_pieces.specs.Lists.{weight}
 
 pub record Listed : Type 0 where
   pub run : ℕ
@@ -38,4 +38,4 @@ abbrev pub GivesUpBeyond : ℕ → Listed → Listed → Type 0
 GivesUpBeyond most old new =
     (more : ℕ) × (more ≤ length old.kept)
     × (new ≡ record { run = old.run; given_up = old.given_up + more; kept = drop more old.kept })
-    × ((more ≡ 0) ⊎ (most < total (drop (more - 1) old.kept)))
+    × ((more ≡ 0) ⊎ (most < weight (drop (more - 1) old.kept)))

@@ -7,7 +7,7 @@ abbrev pub blocks : List (List ℕ) → List ℕ
 blocks [] = []
 blocks (entry ∷ entries) = block entry ++ blocks entries
 
--- how many bytes they have
-abbrev pub total : List (List ℕ) → ℕ
-total [] = 0
-total (entry ∷ entries) = length entry + total entries
+-- how many bytes of memory they take: their own, and 128 for each
+abbrev pub weight : List (List ℕ) → ℕ
+weight [] = 0
+weight (entry ∷ entries) = length entry + 128 + weight entries

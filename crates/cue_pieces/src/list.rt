@@ -1,10 +1,10 @@
-ghost use Rattle.std.specs.Prelude.{◌≡◌, ◌+◌, ◌-◌, ◌≤◌, ◌++◌, ◌∷◌, [], ◌↔◌, ◌==◌, ℕ, List, length};
+ghost use Rattle.std.specs.Prelude.{◌≡◌, ◌+◌, ◌-◌, ◌/◌, ◌≤◌, ◌++◌, ◌∷◌, [], ◌↔◌, ◌==◌, ℕ, List, length};
 ghost use Rattle.std.specs.Prelude.{drop, IfOk, IfSome, IfNone, OnOk, OnErr, IsTrue};
 ghost use Rattle.std.specs.List.{Contains};
 ghost use Rattle.cue_journal.specs.Blocks.{recovered, block, Fits};
 ghost use Rattle.cue_pieces.specs.Listed.{Listed, next_of, Keeps, behind_of, GivesUp};
 ghost use Rattle.cue_pieces.specs.Listed.{GivesUpBeyond};
-ghost use Rattle.cue_pieces.specs.Lists.{blocks, total};
+ghost use Rattle.cue_pieces.specs.Lists.{blocks, weight};
 
 use crate::cursor::Cursor;
 use bytes::Bytes;
@@ -12,8 +12,12 @@ use std::alloc::{AllocError, Global};
 use std::collections::{BTreeMap, VecDeque};
 use std::marker::Model;
 
-/// So many bytes of pieces are kept at most.
+/// So many bytes of memory the pieces that are kept take at most.
 pub const MOST_BYTES: usize = 16 * 1024 * 1024;
+
+/// So many bytes a piece takes beside its own: its place in the list and in the index, and what the
+/// allocator adds. A million pieces of one byte were seen to take 121 each.
+const BESIDE: usize = 128;
 
 /// No piece is as long, in bytes.
 const LONGEST: usize = u32::MAX as usize;
@@ -29,7 +33,7 @@ pub struct Pieces {
     kept: VecDeque<Bytes>,
     /// The numbers of those that are kept, to look them up.
     known: BTreeMap<Bytes, u64>,
-    /// How many bytes those that are kept have.
+    /// How many bytes of memory those that are kept take.
     size: usize,
 }
 
@@ -49,7 +53,7 @@ impl Model for Pieces {
 fn entry_of(alloc: Global, first: u8, rest: &[u8]) -> Result<Bytes, AllocError>
     ensures { IfOk result (λ entry. entry ≡ first ∷ rest.now) }
 {
-    let mut entry = Vec::new(alloc);
+    let mut entry = Vec::with_capacity(alloc, rest.len().saturating_add(1))?;
     entry.push(first)?;
     entry.extend_from_slice(rest)?;
     Ok(Bytes::from_vec(entry)?)
@@ -105,10 +109,24 @@ impl Pieces {
         ensures { IfOk result (λ known. IsTrue known → Contains self.now.kept entry.now) }
     {
         let key = Bytes::from_vec(Vec::from_slice(self.alloc, entry)?)?;
-        let Some(number) = self.known.get(&key) else {
-            return Ok(false);
-        };
-        Ok(self.is_at(*number, entry))
+        Ok(self.is_kept(&key))
+    }
+
+    /// Whether the entry that begins with this byte is found among those that are kept.
+    pub fn has(&self, first: u8, rest: &[u8]) -> Result<bool, AllocError>
+        ensures { IfOk result (λ known. IsTrue known → Contains self.now.kept (first ∷ rest.now)) }
+    {
+        let key = entry_of(self.alloc, first, rest)?;
+        Ok(self.is_kept(&key))
+    }
+
+    fn is_kept(&self, key: &Bytes) -> bool
+        ensures { IsTrue result → Contains self.now.kept key.now }
+    {
+        match self.known.get(key) {
+            Some(number) => self.is_at(*number, key.as_slice()),
+            None => false,
+        }
     }
 
     /// Whether the piece with this number is kept, and is this entry.
@@ -141,7 +159,7 @@ impl Pieces {
         if rest.len() >= LONGEST || self.given_up >= u64::MAX - self.kept.len() as u64 {
             return Err(AllocError);
         }
-        let Some(size) = self.size.checked_add(rest.len() + 1) else {
+        let Some(size) = self.size.checked_add(rest.len() + 1 + BESIDE) else {
             return Err(AllocError);
         };
         let entry = entry_of(self.alloc, first, rest)?;
@@ -159,22 +177,39 @@ impl Pieces {
             → self.new ≡ record self.old { kept = entries } }
     {
         if let Some(last) = self.kept.pop_back() {
-            self.size -= last.len();
+            self.size -= last.len() + BESIDE;
             self.known.remove(&last);
         }
     }
 
-    /// Gives up the oldest as long as there are too many bytes.
+    /// Gives up the oldest as long as they take too many bytes.
     pub fn trim(&mut self)
         ensures gives_up { GivesUp self.old self.new }
-        ensures needed { GivesUpBeyond MOST_BYTES self.old self.new }
-        ensures bound { total self.new.kept ≤ MOST_BYTES }
+        ensures needed { GivesUpBeyond 16777216 self.old self.new }
+        ensures bound { weight self.new.kept ≤ 16777216 }
     {
-        while self.size > MOST_BYTES {
+        self.shrink_to(MOST_BYTES);
+    }
+
+    /// Gives up the oldest, until the others take half of the memory that all took.
+    pub fn halve(&mut self)
+        ensures gives_up { GivesUp self.old self.new }
+        ensures bound { weight self.new.kept ≤ weight self.old.kept / 2 }
+    {
+        self.shrink_to(self.size / 2);
+    }
+
+    /// Gives up the oldest, until the others take so many bytes.
+    fn shrink_to(&mut self, most: usize)
+        ensures gives_up { GivesUp self.old self.new }
+        ensures needed { GivesUpBeyond most self.old self.new }
+        ensures bound { weight self.new.kept ≤ most }
+    {
+        while self.size > most {
             let Some(oldest) = self.kept.pop_front() else {
                 return;
             };
-            self.size -= oldest.len();
+            self.size -= oldest.len() + BESIDE;
             self.given_up += 1;
             self.known.remove(&oldest);
         }

@@ -1,16 +1,21 @@
 -- The state of a site in the place of a journal.
-use Rattle.std.proofs.Common.{◌≡◌, ◌<◌, ◌^◌, ℕ, List, [], ◌∷◌, ◌++◌, length, sym, ap, ◌∙◌, subst, append-nil, inr}
+use Rattle.std.proofs.Common.{◌≡◌, ◌<◌, ◌^◌, ℕ, List, [], ◌∷◌, ◌++◌, length, sym, ap, ◌∙◌, subst, append-nil, inr, Result, Ok, Err, IfOk, is_ok, true, false}
 use Rattle.cue_lattice.specs.World.{Piece, IsUnified, IsSound}
 use Rattle.cue_replica.specs.Language.{Table, language}
 use Rattle.cue_journal.specs.Blocks.{recovered}
 use Rattle.cue_journal.specs.Settled.{IsBatch}
 use Rattle.cue_journal.specs.Batches.{batch_bytes}
-use Rattle.cue_journal.specs.Journals.{disk_of}
+use Rattle.cue_journal.specs.Journals.{disk_of, IsEnough}
+use Rattle.cue_journal.specs.declared.journal.Room.{Room}
+use Rattle.cue_journal.specs.declared.journal.Room.TheVariants.{Enough, Refused}
 use Rattle.cue_journal.specs.Pairs.{IsPairReady, IsCondensed, entries_of, growing_of, spare_of}
 use Rattle.cue_service.specs.declared.site.Site.{Site}
 use Rattle.cue_service.specs.Entries.{StandFor}
 use Rattle.cue_service.specs.Sites.{IsConsistent}
-use Rattle.cue_service.proofs.Consistent.{no_batch, none_recovered, own_state, condensed_stands}
+use Rattle.cue_service.proofs.Consistent.{no_batch, none_recovered, own_state, condensed_stands, committed}
+
+never_ok : {P : Type 0} → false ≡ true → P
+never_ok failed = absurd cc
 
 module _ {D : Type 0} (seen : D → List ℕ) (may_leave : D → List ℕ → Type 0) (sound : IsSound Table language) where
   -- what is in the batch: one entry
@@ -48,3 +53,29 @@ module _ {D : Type 0} (seen : D → List ℕ) (may_leave : D → List ℕ → Ty
         disk = there;
         all = subst (λ (l : List (List ℕ)). StandFor l pieces) (sym (ap (λ (l : List (List ℕ)). entries_of seen new.files ++ l) (none_recovered (batch_bytes new.desk.batch) none) ∙ append-nil (entries_of seen new.files))) there;
       }
+
+  -- a snapshot that was refused
+  pub kept_site : (old new : Site D) (pieces : List Piece) → IsConsistent seen may_leave old pieces pieces → batch_bytes old.desk.batch ≡ []
+      → (IsPairReady seen may_leave old.files → IsPairReady seen may_leave new.files × (entries_of seen new.files ≡ entries_of seen old.files))
+      → new.desk.board ≡ old.desk.board → batch_bytes new.desk.batch ≡ [] → IsConsistent seen may_leave new pieces pieces
+  kept_site old new pieces before empty kept table none =
+      let done = kept before.ready in
+      let entries = entries_of seen old.files in
+      let all : entries_of seen new.files ≡ entries ++ recovered (batch_bytes old.desk.batch) =
+      done.1 ∙ sym (append-nil entries) ∙ sym (ap (λ (l : List (List ℕ)). entries ++ l) (none_recovered (batch_bytes old.desk.batch) empty)) in
+      committed seen may_leave old new pieces pieces before done.0 all table none
+
+  -- a snapshot that was written, or refused
+  pub condensed_or_kept : {E : Type 0} (r : Result Room E) → is_ok r ≡ true → (old new : Site D) (pieces : List Piece) (bytes batch : List ℕ)
+      → IsConsistent seen may_leave old pieces pieces → batch_bytes old.desk.batch ≡ []
+      → length bytes < 2 ^ 64 → bytes ≡ language.written old.desk.board
+      → (IsBatch (batch_bytes old.desk.batch) → IsBatch batch × (recovered batch ≡ recovered (batch_bytes old.desk.batch) ++ (1 ∷ bytes) ∷ []))
+      → IfOk r (λ room. IsEnough room → IsPairReady seen may_leave old.files → IsBatch batch
+      → IsPairReady seen may_leave new.files × (entries_of seen new.files ≡ recovered (seen (disk_of (spare_of old.files))) ++ recovered batch))
+      → IfOk r (λ room. ¬ IsEnough room → IsPairReady seen may_leave old.files → IsPairReady seen may_leave new.files × (entries_of seen new.files ≡ entries_of seen old.files))
+      → new.desk.board ≡ old.desk.board → batch_bytes new.desk.batch ≡ [] → IsConsistent seen may_leave new pieces pieces
+  condensed_or_kept (Ok Enough) fine old new pieces bytes batch before empty fits written added condensed kept table none =
+      condensed_site old new pieces bytes batch before empty fits written added (condensed tt) table none
+  condensed_or_kept (Ok (Refused error)) fine old new pieces bytes batch before empty fits written added condensed kept table none =
+      kept_site old new pieces before empty (kept (λ enough. enough)) table none
+  condensed_or_kept (Err error) failed old new pieces bytes batch before empty fits written added condensed kept table none = never_ok failed

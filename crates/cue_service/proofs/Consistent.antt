@@ -10,7 +10,7 @@ use Rattle.cue_journal.specs.Batches.{batch_bytes}
 use Rattle.cue_journal.specs.Pairs.{IsPairReady, IsCommitted, IsCondensed, entries_of}
 use Rattle.cue_journal.specs.declared.pair.Pair.{Pair}
 use Rattle.cue_service.specs.declared.site.Site.{Site}
-use Rattle.cue_service.specs.Answering.{IsSame, IsTaken}
+use Rattle.cue_service.specs.Answering.{IsSame, IsTaken, IsKnown}
 use Rattle.cue_service.specs.Entries.{entry_of, pieces_of, AreAlike, StandFor}
 use Rattle.cue_service.specs.Sites.{IsConsistent}
 use Rattle.cue_service.proofs.Alike.{stand_more, same_refl, snapshot_stands, both_stand}
@@ -22,17 +22,44 @@ pub none_recovered : (batch : List ℕ) → batch ≡ [] → recovered batch ≡
 none_recovered batch is = ap recovered is
 
 module _ {D : Type 0} (seen : D → List ℕ) (may_leave : D → List ℕ → Type 0) where
+  -- the table and what waits are the same
+  pub still_consistent : (old new : Site D) (on_disk pieces : List Piece) → new.desk.board ≡ old.desk.board → batch_bytes new.desk.batch ≡ batch_bytes old.desk.batch
+      → new.files ≡ old.files → IsConsistent seen may_leave old on_disk pieces → IsConsistent seen may_leave new on_disk pieces
+  still_consistent old new on_disk pieces table waits files before = record {
+    ready = subst (IsPairReady seen may_leave) (sym files) before.ready;
+    batch = subst IsBatch (sym waits) before.batch;
+    held = subst (λ (t : Table). IsUnified language t pieces) (sym table) before.held;
+    disk = subst (λ (f : Pair D). StandFor (entries_of seen f) on_disk) (sym files) before.disk;
+    all = subst (λ (b : List ℕ). StandFor (entries_of seen new.files ++ recovered b) pieces) (sym waits)
+        (subst (λ (f : Pair D). StandFor (entries_of seen f ++ recovered (batch_bytes old.desk.batch)) pieces) (sym files) before.all);
+  }
+
   -- nothing changed but counts
   pub same_consistent : (old new : Site D) (on_disk pieces : List Piece) → IsSame old.desk new.desk → new.files ≡ old.files
       → IsConsistent seen may_leave old on_disk pieces → IsConsistent seen may_leave new on_disk pieces
-  same_consistent old new on_disk pieces same files before = record {
-    ready = subst (IsPairReady seen may_leave) (sym files) before.ready;
-    batch = subst IsBatch (sym same.waits) before.batch;
-    held = subst (λ (t : Table). IsUnified language t pieces) (sym same.table) before.held;
-    disk = subst (λ (f : Pair D). StandFor (entries_of seen f) on_disk) (sym files) before.disk;
-    all = subst (λ (b : List ℕ). StandFor (entries_of seen new.files ++ recovered b) pieces) (sym same.waits)
-        (subst (λ (f : Pair D). StandFor (entries_of seen f ++ recovered (batch_bytes old.desk.batch)) pieces) (sym files) before.all);
-  }
+  same_consistent old new on_disk pieces same files before = still_consistent old new on_disk pieces same.table same.waits files before
+
+  -- a piece that the table says already
+  pub known_consistent : (old new : Site D) (on_disk pieces : List Piece) (piece : Piece) → IsKnown piece old.desk new.desk → new.files ≡ old.files
+      → IsConsistent seen may_leave old on_disk pieces → IsConsistent seen may_leave new on_disk (pieces ++ piece ∷ [])
+  known_consistent old new on_disk pieces piece known files before =
+      let still = still_consistent old new on_disk pieces known.same.table known.same.waits files before in
+      let more : IsUnified language new.desk.board (pieces ++ piece ∷ []) =
+      unified_more old.desk.board new.desk.board _ pieces (piece ∷ []) before.held known.adds known.valid (one_piece piece) in
+      record {
+        ready = still.ready;
+        batch = still.batch;
+        held = more;
+        disk = still.disk;
+        all = record {
+          acceptable = still.all.acceptable;
+          alike = λ path question.
+              let a = still.all.alike path question in
+              let u = still.held.1 path question in
+              let v = more.1 path question in
+              (λ h. v.0 (u.1 (a.0 h)), λ h. a.1 (u.0 (v.1 h)));
+        };
+      }
 
   -- one more piece
   pub taken_consistent : (old new : Site D) (on_disk pieces : List Piece) (piece : Piece) → IsTaken piece old.desk new.desk → new.files ≡ old.files

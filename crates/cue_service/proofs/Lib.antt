@@ -10,4 +10,5 @@ pub mod Opening
 pub mod Pulls
 pub mod Rounds
 pub mod Routes
+pub mod Sparing
 pub mod Worlds

@@ -43,6 +43,17 @@ listed_more old mid new piece is gives accepted listed =
       kept = kept ∙ ap (drop new.given_up) (sym all);
     }
 
+-- some of the oldest are given up
+pub listed_less : (old new : Listed) → GivesUp old new → (accepted : List Piece) → AreListed accepted old → AreListed accepted new
+listed_less old new gives accepted listed =
+    let entries = map entry_of accepted in
+    let new_kept : new.kept ≡ drop gives.0 old.kept = ap (λ (l : Listed). l.kept) gives.2 in
+    let new_count : new.given_up ≡ old.given_up + gives.0 = ap (λ (l : Listed). l.given_up) gives.2 in
+    record {
+      within = omega (arith, new_count, gives.1, listed.within, ap length listed.kept, length-drop old.given_up entries);
+      kept = new_kept ∙ ap (drop gives.0) listed.kept ∙ drop_more gives.0 old.given_up entries ∙ ap (λ n. drop n entries) (sym new_count);
+    }
+
 pub same_run_more : (old mid new : Listed) (entry : List ℕ) → mid ≡ with_entry old entry → GivesUp mid new → new.run ≡ old.run
 same_run_more old mid new entry is gives = ap (λ (l : Listed). l.run) gives.2 ∙ ap (λ (l : Listed). l.run) is
 

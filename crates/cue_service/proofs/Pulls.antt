@@ -37,7 +37,7 @@ covers_each table pieces piece unified has path question refuses =
     (unified.1 path question).1 (one_of_has (λ member. piece_refuses language member path question) pieces piece has refuses)
 
 -- an entry that is listed is that of a piece that was accepted
-entry_has :
+pub entry_has :
     (n : ℕ) (accepted : List Piece) (k : ℕ) (entry : List ℕ) → k < length (drop n (map entry_of accepted)) → slice_index_or (drop n (map entry_of accepted)) k entry ≡ entry
     → (piece : Piece) × Has accepted piece × (entry_of piece ≡ entry)
 entry_has zero [] k entry less is = absurd (omega (arith, less))

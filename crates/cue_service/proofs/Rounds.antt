@@ -1,12 +1,12 @@
 -- Calls, and rounds of them.
-use Rattle.std.proofs.Common.{◌≡◌, ◌≢◌, ◌⊎◌, ◌==◌, ℕ, List, [], ◌∷◌, ◌++◌, refl, sym, ap, ◌∙◌, subst, inl, inr, append_assoc, append-nil, true, false, Bool, codes, arith, if◌then◌else◌}
+use Rattle.std.proofs.Common.{◌≡◌, ◌≢◌, ◌⊎◌, ◌==◌, ℕ, List, [], ◌∷◌, ◌++◌, refl, sym, ap, ◌∙◌, subst, inl, inr, append_assoc, append-nil, true, false, Bool, codes, arith, if◌then◌else◌, ⊎_elim}
 use Rattle.std.proofs.lemmas.Bool.Decides.{nat_tests}
 use Rattle.std.specs.Str.{bytes_eq}
 use Rattle.http.specs.declared.request.Request.{Request}
 use Rattle.http.specs.Request.{body_of}
 use Rattle.http_server.specs.declared.response.Response.{Response}
 use Rattle.http_server.specs.Exchange.{Call, Chain}
-use Rattle.cue_lattice.specs.World.{Piece, text, state}
+use Rattle.cue_lattice.specs.World.{Piece, Has, text, state}
 use Rattle.cue_journal.specs.Pairs.{is_whole}
 use Rattle.cue_journal.specs.declared.pair.Pair.{Pair}
 use Rattle.cue_service.specs.declared.site.Site.{Site}
@@ -16,7 +16,7 @@ use Rattle.cue_service.specs.declared.route.Route.TheVariants.{Ask, Pieces, Take
 use Rattle.cue_service.specs.declared.route.Hand.{Hand}
 use Rattle.cue_service.specs.declared.route.Hand.TheVariants as hands
 use Rattle.cue_service.specs.Requests.{IsRoute, handed, piece_in}
-use Rattle.cue_service.specs.Answering.{Answers, AnswersAs, IsAsked, IsSame, IsTaken, GathersPieces, status_of}
+use Rattle.cue_service.specs.Answering.{Answers, AnswersAs, IsAsked, IsSame, IsTaken, IsKnown, IsSpared, IsUnanswered, GathersPieces, status_of}
 use Rattle.cue_service.specs.Listing.{AreListed, IsToldPieces}
 use Rattle.cue_service.specs.Sites.{AnswersAt, IsConsistent, Settles, Leaves}
 use Rattle.cue_service.specs.Promise.{acknowledged_by, acknowledged, AreSomeOf}
@@ -24,7 +24,14 @@ use Rattle.cue_answer.specs.declared.question.Question.{Question}
 use Rattle.cue_answer.specs.declared.question.Question.TheVariants as questions
 use Rattle.cue_answer.specs.declared.question.Status.{Status}
 use Rattle.cue_answer.specs.declared.question.Status.TheVariants as statuses
-use Rattle.cue_service.proofs.Consistent.{same_consistent, taken_consistent}
+use Rattle.cue_service.proofs.Alike.{read_back}
+use Rattle.cue_service.proofs.Consistent.{same_consistent, still_consistent, taken_consistent, known_consistent}
+use Rattle.cue_service.proofs.Listing.{listed_less}
+use Rattle.cue_service.proofs.Pulls.{entry_has}
+use Rattle.cue_service.proofs.Sparing.{spared, unanswered}
+use Rattle.cue_pieces.specs.Listed.{Listed}
+use Rattle.cue_service.specs.Entries.{entry_of, piece_of}
+use Rattle.std.specs.List.{Contains}
 
 not_acknowledged : (request : Request (List ℕ)) (response : Response) → response.status ≢ 204 → acknowledged_by (request, response) ≡ []
 not_acknowledged request response other = grind (arith, nat_tests)
@@ -45,14 +52,22 @@ told_status questions.Print status = omega arith
 told_status questions.Report status = omega arith
 told_status questions.State status = omega arith
 
--- a call takes in the piece that it acknowledges, or changes nothing
+-- a call takes in the piece that it acknowledges, or it is known, or the call changes nothing
 abbrev pub Moves : Desk → Request (List ℕ) → Response → Desk → Type 0
 Moves old request response new =
     ((piece : Piece) × IsTaken piece old new × (acknowledged_by (request, response) ≡ piece ∷ []))
-    ⊎ (IsSame old new × (acknowledged_by (request, response) ≡ []))
+    ⊎ (((piece : Piece) × IsKnown piece old new × (acknowledged_by (request, response) ≡ piece ∷ []))
+    ⊎ (IsSpared old new × (acknowledged_by (request, response) ≡ [])))
 
 nothing : (old new : Desk) (request : Request (List ℕ)) (response : Response) (code : ℕ) → IsSame old new → response.status ≡ code → code ≢ 204 → Moves old request response new
-nothing old new request response code same is other = inr (same, not_acknowledged request response (λ e. other (sym is ∙ e)))
+nothing old new request response code same is other = inr (inr (spared old new same, not_acknowledged request response (λ e. other (sym is ∙ e))))
+
+handed_to : (hand : Hand) (old new : Desk) (request : Request (List ℕ)) (response : Response) → IsRoute (Take hand) request → response.status ≡ 204
+    → IsTaken (handed hand (body_of request)) old new ⊎ IsKnown (handed hand (body_of request)) old new → Moves old request response new
+handed_to hand old new request response is done (inl taken) =
+    inl (handed hand (body_of request), taken, is_acknowledged request response done ∙ ap (λ (p : Piece). p ∷ []) (handed_in hand request is))
+handed_to hand old new request response is done (inr known) =
+    inr (inl (handed hand (body_of request), known, is_acknowledged request response done ∙ ap (λ (p : Piece). p ∷ []) (handed_in hand request is)))
 
 asked : (question : Question) (old new : Desk) (request : Request (List ℕ)) (response : Response) → IsSame old new → IsAsked question old.board request response → Moves old request response new
 asked question old new request response same (inl known) = nothing old new request response 304 same known.0 (omega arith)
@@ -66,40 +81,102 @@ told_pieces old new request response same (inr (inr none)) = nothing old new req
 moves : (route : Route) (old new : Desk) (request : Request (List ℕ)) (response : Response) → IsRoute route request → AnswersAs route old request response new → Moves old request response new
 moves (Ask question) old new request response is a = asked question old new request response a.0 a.1
 moves Pieces old new request response is a = told_pieces old new request response a.0 a.1
-moves (Take hand) old new request response is (inl taken) =
-    inl (handed hand (body_of request), taken.0, is_acknowledged request response taken.1 ∙ ap (λ (p : Piece). p ∷ []) (handed_in hand request is))
-moves (Take hand) old new request response is (inr refused) = inr (refused.0, not_acknowledged request response refused.1)
+moves (Take hand) old new request response is (inl done) = handed_to hand old new request response is done.1 done.0
+moves (Take hand) old new request response is (inr refused) = inr (inr (refused.0, not_acknowledged request response refused.1))
 moves Health old new request response is a = nothing old new request response 200 a.0 a.1 (omega arith)
 moves Metrics old new request response is a = nothing old new request response 200 a.0 a.1 (omega arith)
 moves Page old new request response is a = nothing old new request response 200 a.0 a.1 (omega arith)
 moves OtherMethod old new request response is a = nothing old new request response 405 a.0 a.1 (omega arith)
 moves Unknown old new request response is a = nothing old new request response 404 a.0 a.1 (omega arith)
 
+moved_unanswered : (route : Route) (old new : Desk) (request : Request (List ℕ)) (response : Response) (code : ℕ) → IsUnanswered route old new → response.status ≡ code → code ≢ 204
+    → Moves old request response new
+moved_unanswered route old new request response code same is other = inr (inr (unanswered route old new same, not_acknowledged request response (λ e. other (sym is ∙ e))))
+
 pub moved : (old new : Desk) (request : Request (List ℕ)) (response : Response) → Answers old request response new → Moves old request response new
 moved old new request response answers = by answers.2
   where
-    by : AnswersAs answers.0 old request response new ⊎ (IsSame old new × (response.status ≡ 507)) → Moves old request response new
+    by : AnswersAs answers.0 old request response new ⊎ (IsUnanswered answers.0 old new × (response.status ≡ 507)) → Moves old request response new
     by (inl told) = moves answers.0 old new request response answers.1 told
-    by (inr wanting) = nothing old new request response 507 wanting.0 wanting.1 (omega arith)
+    by (inr wanting) = moved_unanswered answers.0 old new request response 507 wanting.0 wanting.1 (omega arith)
+
+has_left : (xs ys : List Piece) (piece : Piece) → Has xs piece → Has (xs ++ ys) piece
+has_left [] ys piece has = absurd has
+has_left (x ∷ xs) ys piece (inl is) = inl is
+has_left (x ∷ xs) ys piece (inr has) = inr (has_left xs ys piece has)
+
+has_right : (xs ys : List Piece) (piece : Piece) → Has ys piece → Has (xs ++ ys) piece
+has_right [] ys piece has = has
+has_right (x ∷ xs) ys piece has = inr (has_right xs ys piece has)
+
+has_split : (xs ys : List Piece) (piece : Piece) → Has (xs ++ ys) piece → Has xs piece ⊎ Has ys piece
+has_split [] ys piece has = inr has
+has_split (x ∷ xs) ys piece (inl is) = inl (inl is)
+has_split (x ∷ xs) ys piece (inr has) = ⊎_elim (λ first. inl (inr first)) (λ second. inr second) (has_split xs ys piece has)
+
+some_append : (some others pieces more : List Piece) → AreSomeOf some pieces → AreSomeOf others more → AreSomeOf (some ++ others) (pieces ++ more)
+some_append some others [] more none second = subst (λ (l : List Piece). AreSomeOf (l ++ others) more) (sym none) second
+some_append some others (piece ∷ pieces) more (inl first) second = inl (first.0 ++ others, ap (λ (l : List Piece). l ++ others) first.1, some_append first.0 others pieces more first.2 second)
+some_append some others (piece ∷ pieces) more (inr rest) second = inr (some_append some others pieces more rest second)
+
+-- what is listed of pieces that were acknowledged
+abbrev pub IsListedOf : List Piece → List Piece → Listed → Type 0
+IsListedOf accepted acked listed =
+    (more : List Piece) × AreSomeOf more acked × ((piece : Piece) → Has acked piece → Has (accepted ++ more) piece) × AreListed (accepted ++ more) listed
+
+-- a piece that is kept was accepted
+known_has : (accepted : List Piece) (listed : Listed) (piece : Piece) → AreListed accepted listed → Contains listed.kept (entry_of piece) → Has accepted piece
+known_has accepted listed piece are known =
+    let kept = subst (λ (l : List (List ℕ)). Contains l (entry_of piece)) are.kept known in
+    let found = entry_has listed.given_up accepted kept.0 (entry_of piece) kept.1 kept.2 in
+    subst (Has accepted) (sym (read_back found.0) ∙ ap piece_of found.2 ∙ read_back piece) found.1
+
+listed_taken : (accepted : List Piece) (piece : Piece) (listed : Listed) → AreListed (accepted ++ piece ∷ []) listed → IsListedOf accepted (piece ∷ []) listed
+listed_taken accepted piece listed are = (piece ∷ [], inl ([], refl, refl), λ one has. has_right accepted (piece ∷ []) one has, are)
+
+has_kept : (accepted : List Piece) (piece : Piece) → Has accepted piece → (one : Piece) → Has (piece ∷ []) one → Has (accepted ++ []) one
+has_kept accepted piece has one (inl is) = has_left accepted [] one (subst (Has accepted) is has)
+has_kept accepted piece has one (inr never) = absurd never
+
+listed_as_before : (accepted : List Piece) (listed : Listed) → AreListed accepted listed → AreListed (accepted ++ []) listed
+listed_as_before accepted listed are = subst (λ (l : List Piece). AreListed l listed) (sym (append-nil accepted)) are
+
+listed_known : (accepted : List Piece) (piece : Piece) (listed : Listed) → Has accepted piece → AreListed accepted listed → IsListedOf accepted (piece ∷ []) listed
+listed_known accepted piece listed has are = ([], inr refl, λ one found. has_kept accepted piece has one found, listed_as_before accepted listed are)
+
+listed_none : (accepted : List Piece) (listed : Listed) → AreListed accepted listed → IsListedOf accepted [] listed
+listed_none accepted listed are = ([], refl, λ one has. absurd has, listed_as_before accepted listed are)
 
 one_listed : (old new : Desk) (request : Request (List ℕ)) (response : Response) (accepted : List Piece) → Answers old request response new
-    → AreListed accepted old.pieces → AreListed (accepted ++ acknowledged_by (request, response)) new.pieces
+    → AreListed accepted old.pieces → IsListedOf accepted (acknowledged_by (request, response)) new.pieces
 one_listed old new request response accepted answers before = by (moved old new request response answers)
   where
     P : List Piece → Type 0
-    P more = AreListed (accepted ++ more) new.pieces
+    P acked = IsListedOf accepted acked new.pieces
 
     by : Moves old request response new → P (acknowledged_by (request, response))
-    by (inl taken) = subst P (sym taken.2) (taken.1.listed accepted before)
-    by (inr same) = subst P (sym same.1) (subst (λ (l : List Piece). AreListed l new.pieces) (sym (append-nil accepted)) (subst (AreListed accepted) (sym same.0.pieces) before))
+    by (inl taken) = subst P (sym taken.2) (listed_taken accepted taken.0 new.pieces (taken.1.listed accepted before))
+    by (inr (inl known)) = subst P (sym known.2) (listed_known accepted known.0 new.pieces (known_has accepted old.pieces known.0 before known.1.kept) (subst (AreListed accepted) (sym known.1.same.pieces) before))
+    by (inr (inr same)) = subst P (sym same.1) (listed_none accepted new.pieces (listed_less old.pieces new.pieces same.0.pieces accepted before))
 
 pub listed_still : {D : Type 0} (old called : Site D) (calls : List Call) (accepted : List Piece) → AreListed accepted old.desk.pieces → Chain AnswersAt old calls called
-    → AreListed (accepted ++ acknowledged calls) called.desk.pieces
-listed_still {D} old called [] accepted before same =
-    subst (λ (s : Site D). AreListed (accepted ++ []) s.desk.pieces) (sym same) (subst (λ (l : List Piece). AreListed l old.desk.pieces) (sym (append-nil accepted)) before)
+    → IsListedOf accepted (acknowledged calls) called.desk.pieces
+listed_still {D} old called [] accepted before same = (
+  [],
+  refl,
+  λ other has. absurd has,
+  subst (λ (s : Site D). AreListed (accepted ++ []) s.desk.pieces) (sym same) (subst (λ (l : List Piece). AreListed l old.desk.pieces) (sym (append-nil accepted)) before),
+)
 listed_still old called (call ∷ calls) accepted before chain =
-    subst (λ (l : List Piece). AreListed l called.desk.pieces) (append_assoc accepted (acknowledged_by call) (acknowledged calls))
-    (listed_still chain.0 called calls (accepted ++ acknowledged_by call) (one_listed old.desk chain.0.desk call.0 call.1 accepted chain.1.answer before) chain.2)
+    let here = one_listed old.desk chain.0.desk call.0 call.1 accepted chain.1.answer before in
+    let rest = listed_still chain.0 called calls (accepted ++ here.0) here.3 chain.2 in
+    let joined : (accepted ++ here.0) ++ rest.0 ≡ accepted ++ (here.0 ++ rest.0) = append_assoc accepted here.0 rest.0 in (
+      here.0 ++ rest.0,
+      some_append here.0 rest.0 (acknowledged_by call) (acknowledged calls) here.1 rest.1,
+      λ other has. subst (λ (l : List Piece). Has l other) joined
+          (⊎_elim (λ first. has_left (accepted ++ here.0) rest.0 other (here.2 other first)) (λ second. rest.2 other second) (has_split (acknowledged_by call) (acknowledged calls) other has)),
+      subst (λ (l : List Piece). AreListed l called.desk.pieces) joined rest.3,
+    )
 
 module _ {D : Type 0} (seen : D → List ℕ) (may_leave : D → List ℕ → Type 0) where
   one_call : (old new : Site D) (request : Request (List ℕ)) (response : Response) (on_disk pieces : List Piece) → AnswersAt old request response new
@@ -111,7 +188,8 @@ module _ {D : Type 0} (seen : D → List ℕ) (may_leave : D → List ℕ → Ty
 
       by : Moves old.desk request response new.desk → P (acknowledged_by (request, response))
       by (inl taken) = subst P (sym taken.2) (taken_consistent seen may_leave old new on_disk pieces taken.0 taken.1 call.files before)
-      by (inr same) = subst P (sym same.1) (subst (IsConsistent seen may_leave new on_disk) (sym (append-nil pieces)) (same_consistent seen may_leave old new on_disk pieces same.0 call.files before))
+      by (inr (inl known)) = subst P (sym known.2) (known_consistent seen may_leave old new on_disk pieces known.0 known.1 call.files before)
+      by (inr (inr same)) = subst P (sym same.1) (subst (IsConsistent seen may_leave new on_disk) (sym (append-nil pieces)) (still_consistent seen may_leave old new on_disk pieces same.0.table same.0.waits call.files before))
 
   pub held : (old called : Site D) (calls : List Call) (on_disk pieces : List Piece) → IsConsistent seen may_leave old on_disk pieces → Chain AnswersAt old calls called
       → IsConsistent seen may_leave called on_disk (pieces ++ acknowledged calls)
@@ -132,7 +210,7 @@ module _ {D : Type 0} (seen : D → List ℕ) (may_leave : D → List ℕ → Ty
     subst (λ (l : List Piece). AreListed l new.desk.pieces) (sym (append-nil accepted)) (subst (AreListed accepted) (sym same.pieces) listed),
   )
   gathered (piece ∷ pulled) old new on_disk pieces accepted gathers files before listed =
-      let mid : Site D = record { desk = gathers.0; files = old.files; snapshot = old.snapshot } in
+      let mid : Site D = record { desk = gathers.0; files = old.files; snapshots = old.snapshots; fault = old.fault } in
       elim gathers.1 [
         | inl taken ↦
             let rest = gathered pulled mid new on_disk (pieces ++ piece ∷ []) (accepted ++ piece ∷ []) gathers.2 files

@@ -6,7 +6,8 @@ use Rattle.std.proofs.lemmas.Bool.{cases_Bool, false≢true}
 use Rattle.std.proofs.lemmas.Slice.Eq.{bytes_eq-Decides}
 use Rattle.cue_lattice.specs.Question.{Refusals, SameAnswers}
 use Rattle.cue_lattice.specs.World as world
-use Rattle.cue_lattice.specs.World.{Piece, Sets, IsUnified, IsMessageOf, IsSound, pieces_at, pieces_refuse, reach, text, state}
+use Rattle.cue_lattice.specs.World.{Piece, Sets, IsUnified, IsMessageOf, IsSound, piece_refuses, pieces_at, pieces_refuse, reach, text, state}
+use Rattle.cue_replica.specs.Accepted.{IsAcceptable}
 use Rattle.cue_replica.specs.Language.{Table, language}
 use Rattle.cue_replica.specs.Replica.{Adds}
 use Rattle.cue_replica.proofs.Adding.{one_piece, unified_more}
@@ -24,7 +25,7 @@ use Rattle.cue_service.specs.declared.route.Route.TheVariants.{Ask, Pieces, Take
 use Rattle.cue_service.specs.declared.route.Hand.{Hand}
 use Rattle.cue_service.specs.declared.route.Hand.TheVariants as hands
 use Rattle.cue_service.specs.Requests.{IsRoute, path_of}
-use Rattle.cue_service.specs.Answering.{Answers, AnswersAs, IsAsked, IsSame, IsTaken, GathersPieces}
+use Rattle.cue_service.specs.Answering.{Answers, AnswersAs, IsAsked, IsSame, IsSpared, IsTaken, IsUnanswered, GathersPieces, bytes_in}
 use Rattle.cue_service.specs.Promise.{acknowledged_by}
 use Rattle.cue_service.specs.Worlds.{IsWorld, IsStateAnswer, AreEventsOf, ComesTo, TookOver, IsPieceIn, TookPieces, AreCallsEvents, AreGathersEvents, AreGatheredPiecesEvents}
 use Rattle.cue_service.proofs.Rounds.{Moves, moved}
@@ -199,16 +200,17 @@ record Called (site : ℕ) (call : Call) (messages : List (List ℕ)) (tables : 
 
 -- a piece is taken
 takes_piece : IsSound Table language → (tables : List Table) (messages : List (List ℕ)) (sets : Sets) (site : ℕ) (old new : Desk) (call : Call) (piece : Piece)
-    → IsWorld tables messages sets → slice_get tables site ≡ Some old.board → IsTaken piece old new → acknowledged_by call ≡ piece ∷ []
+    → IsWorld tables messages sets → slice_get tables site ≡ Some old.board → length (bytes_in piece) < 2 ^ 64 → IsAcceptable piece
+    → Adds old.board (piece_refuses language piece) new.board → language.IsValid new.board → acknowledged_by call ≡ piece ∷ []
     → Called site call messages tables sets new.board
-takes_piece sound tables messages sets site old new call (text t) w found taken is = record {
+takes_piece sound tables messages sets site old new call (text t) w found fits acceptable adds valid is = record {
   events = world.submit site t ∷ [];
   messages' = messages;
   are = inl (text t, is, refl, refl);
-  comes = takes_text tables messages sets site old.board new.board t w found taken.acceptable taken.adds taken.valid;
+  comes = takes_text tables messages sets site old.board new.board t w found acceptable adds valid;
 }
-takes_piece sound tables messages sets site old new call (state bytes) w found taken is =
-    let done = takes_state sound tables messages sets site old.board new.board bytes w found taken.fits taken.acceptable taken.adds taken.valid in
+takes_piece sound tables messages sets site old new call (state bytes) w found fits acceptable adds valid is =
+    let done = takes_state sound tables messages sets site old.board new.board bytes w found fits acceptable adds valid in
     record {
       events = done.events;
       messages' = messages;
@@ -257,7 +259,7 @@ quiet Unknown old new request response is a = inr (other_status 404 request resp
 is_quiet_call : (old new : Desk) (request : Request (List ℕ)) (response : Response) → Answers old request response new → is_quiet old request response
 is_quiet_call old new request response answers = by answers.2
   where
-    by : AnswersAs answers.0 old request response new ⊎ (IsSame old new × (response.status ≡ 507)) → is_quiet old request response
+    by : AnswersAs answers.0 old request response new ⊎ (IsUnanswered answers.0 old new × (response.status ≡ 507)) → is_quiet old request response
     by (inl told) = quiet answers.0 old new request response answers.1 told
     by (inr wanting) = inr (other_status 507 request response wanting.1 (omega arith))
 
@@ -267,7 +269,7 @@ one_call : IsSound Table language → (site : ℕ) (old new : Desk) (request : R
     → Called site (request, response) messages tables sets new.board
 one_call sound site old new request response messages tables sets answers found w = by (moved old new request response answers)
   where
-    still : IsSame old new → acknowledged_by (request, response) ≡ [] → is_quiet old request response → Called site (request, response) messages tables sets new.board
+    still : IsSpared old new → acknowledged_by (request, response) ≡ [] → is_quiet old request response → Called site (request, response) messages tables sets new.board
     still same none (inl sent) = record {
       events = world.send site ∷ [];
       messages' = messages ++ response.body.items ∷ [];
@@ -283,8 +285,9 @@ one_call sound site old new request response messages tables sets answers found 
     }
 
     by : Moves old request response new → Called site (request, response) messages tables sets new.board
-    by (inl taken) = takes_piece sound tables messages sets site old new (request, response) taken.0 w found taken.1 taken.2
-    by (inr same) = still same.0 same.1 (is_quiet_call old new request response answers)
+    by (inl taken) = takes_piece sound tables messages sets site old new (request, response) taken.0 w found taken.1.fits taken.1.acceptable taken.1.adds taken.1.valid taken.2
+    by (inr (inl known)) = takes_piece sound tables messages sets site old new (request, response) known.0 w found known.1.fits known.1.acceptable known.1.adds known.1.valid known.2
+    by (inr (inr same)) = still same.0 same.1 (is_quiet_call old new request response answers)
 
 pub are_calls_events : {D : Type 0} → IsSound Table language → AreCallsEvents D
 are_calls_events {D = D} sound number old called [] messages tables sets same found w = record {

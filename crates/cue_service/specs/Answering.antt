@@ -1,4 +1,6 @@
 -- What a site answers to a request, and what that does to it.
+use Rattle.std.specs.List.{Contains}
+use Rattle.cue_pieces.specs.Listed.{GivesUp}
 use Rattle.std.specs.Prelude.{◌≡◌, ◌≢◌, ◌⊎◌, ◌<◌, ◌^◌, ℕ, List, [], ◌∷◌, ◌++◌, length, codes}
 use Rattle.cue_lattice.specs.World.{Piece, text, state, piece_refuses}
 use Rattle.cue_replica.specs.Accepted.{IsAcceptable}
@@ -53,6 +55,22 @@ pub record IsTaken (piece : Piece) (old new : Desk) : Type 0 where
   pub listed : (accepted : List Piece) → AreListed accepted old.pieces
       → AreListed (accepted ++ piece ∷ []) new.pieces
 
+-- The piece is known: it is among those that are kept, and the table says it already. Nothing changes but
+-- counts.
+pub record IsKnown (piece : Piece) (old new : Desk) : Type 0 where
+  pub acceptable : IsAcceptable piece
+  pub fits : length (bytes_in piece) < 2 ^ 64
+  pub adds : Adds old.board (piece_refuses language piece) new.board
+  pub valid : language.IsValid new.board
+  pub kept : Contains old.pieces.kept (entry_of piece)
+  pub same : IsSame old new
+
+-- nothing changes but counts, and that older pieces may be given up, to free memory
+pub record IsSpared (old new : Desk) : Type 0 where
+  pub table : new.board ≡ old.board
+  pub waits : batch_bytes new.batch ≡ batch_bytes old.batch
+  pub pieces : GivesUp old.pieces new.pieces
+
 -- the number that goes with what is told
 abbrev pub status_of : Question → Status → ℕ
 status_of questions.Export statuses.Conflicts = 409
@@ -67,11 +85,12 @@ IsAsked question table request response =
     × (response.status ≡ status_of question answer.status)
     × (response.body.items ≡ answer.bytes.items))
 
--- what is handed in is accepted, and only then is the status 204, or it is refused
+-- a piece that is sent is accepted, or known, and only then is the status 204, or it is refused
 abbrev pub IsHanded : Hand → Desk → Request (List ℕ) → Response → Desk → Type 0
 IsHanded hand old request response new =
-    (IsTaken (handed hand (body_of request)) old new × (response.status ≡ 204))
-    ⊎ (IsSame old new × (response.status ≢ 204))
+    ((IsTaken (handed hand (body_of request)) old new ⊎ IsKnown (handed hand (body_of request)) old new)
+    × (response.status ≡ 204))
+    ⊎ (IsSpared old new × (response.status ≢ 204))
 
 abbrev pub AnswersAs : Route → Desk → Request (List ℕ) → Response → Desk → Type 0
 AnswersAs (Ask question) old request response new =
@@ -84,11 +103,16 @@ AnswersAs Page old request response new = IsSame old new × (response.status ≡
 AnswersAs OtherMethod old request response new = IsSame old new × (response.status ≡ 405)
 AnswersAs Unknown old request response new = IsSame old new × (response.status ≡ 404)
 
--- a request is answered by what it asks for, or memory was wanting and nothing changes
+-- for a piece that is sent older pieces may be given up, and for no other request
+abbrev pub IsUnanswered : Route → Desk → Desk → Type 0
+IsUnanswered (Take hand) old new = IsSpared old new
+IsUnanswered route old new = IsSame old new
+
+-- A request is answered by what it asks for. Or memory ran out, and nothing changes but that.
 abbrev pub Answers : Desk → Request (List ℕ) → Response → Desk → Type 0
 Answers old request response new =
     (route : Route) × IsRoute route request
-    × (AnswersAs route old request response new ⊎ (IsSame old new × (response.status ≡ 507)))
+    × (AnswersAs route old request response new ⊎ (IsUnanswered route old new × (response.status ≡ 507)))
 
 -- a piece of another site is taken, or nothing changes
 abbrev pub GathersPiece : Piece → Desk → Desk → Type 0

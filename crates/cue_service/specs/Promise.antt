@@ -1,6 +1,6 @@
 -- What a site promises of each round of calls.
 use Rattle.std.specs.Prelude.{◌==◌, ◌≡◌, ◌⊎◌, ℕ, Bool, true, List, [], ◌∷◌, ◌++◌, if◌then◌else◌}
-use Rattle.cue_lattice.specs.World.{Piece}
+use Rattle.cue_lattice.specs.World.{Piece, Has}
 use Rattle.http_server.specs.Exchange.{Call, Chain}
 use Rattle.cue_service.specs.declared.site.Site.{Site}
 use Rattle.cue_service.specs.Listing.{AreListed}
@@ -30,12 +30,15 @@ module _ {D : Type 0} (seen : D → List ℕ) (may_leave : D → List ℕ → Ty
       → IsConsistent seen may_leave old on_disk pieces → Chain AnswersAt old calls called
       → IsConsistent seen may_leave called on_disk (pieces ++ acknowledged calls)
 
-  -- and has listed just those since its start
+  -- It lists what it did, and behind that some of those acknowledged, in their order. Each that was
+  -- acknowledged is listed.
   abbrev pub AreListedStill : Type 0
   AreListedStill =
       (old called : Site D) (calls : List Call) (accepted : List Piece)
       → AreListed accepted old.desk.pieces → Chain AnswersAt old calls called
-      → AreListed (accepted ++ acknowledged calls) called.desk.pieces
+      → (more : List Piece) × AreSomeOf more (acknowledged calls)
+      × ((piece : Piece) → Has (acknowledged calls) piece → Has (accepted ++ more) piece)
+      × AreListed (accepted ++ more) called.desk.pieces
 
   -- so it has, with some of the pieces of another site that come
   abbrev pub AreGathered : Type 0

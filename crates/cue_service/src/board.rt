@@ -30,6 +30,8 @@ pub struct Board {
     edition: u64,
     /// The tag of that edition.
     seen: Option<HeaderValue>,
+    /// Another number for each time that the table was put in or added to.
+    changes: u64,
 }
 
 impl Model for Board {
@@ -60,6 +62,7 @@ impl Board {
             alloc,
             edition: 0,
             seen: None,
+            changes: 0,
         }
     }
 
@@ -67,6 +70,11 @@ impl Board {
         ensures { result.now ≡ self.now }
     {
         &self.table
+    }
+
+    /// A number that is another one once the table is another one.
+    pub(crate) fn changes(&self) -> u64 {
+        self.changes
     }
 
     /// What is told of the table. It is made where it was not asked for since the table changed.
@@ -130,6 +138,7 @@ impl Board {
     {
         hand_over(&mut self.table, hand, bytes)?;
         self.kept = Kept::none();
+        self.changes = self.changes.wrapping_add(1);
         Ok(())
     }
 
@@ -140,5 +149,6 @@ impl Board {
         let kept = Kept::none();
         self.table = table;
         self.kept = kept;
+        self.changes = self.changes.wrapping_add(1);
     }
 }

@@ -9,9 +9,10 @@ ghost use Rattle.cue_lattice.specs.World.{state};
 ghost use Rattle.cue_service.specs.Pulls.{Covers, IsLeftOut, IsRefusalOf};
 ghost use Rattle.cue_service.specs.Requests.{IsRoute, HasField, handed};
 ghost use Rattle.cue_service.specs.Tags.{tag_of};
-ghost use Rattle.cue_service.specs.Answering.{Answers, AnswersAs, IsAsked, IsHanded, IsTaken, IsSame, Gathers, Brings, status_of};
+ghost use Rattle.cue_service.specs.Answering.{Answers, AnswersAs, IsAsked, IsHanded, IsTaken, IsKnown, IsSame, IsSpared, IsUnanswered, Gathers, Brings, status_of};
 
 use crate::board::Board;
+use crate::entries::hand_over;
 use crate::listed::{name_with_state, tell_pieces};
 use crate::page::page;
 use crate::refusal::{refusal_code, refusal_line};
@@ -139,7 +140,7 @@ impl Desk {
     ) -> Result<(), Memory>
         requires { IsBlank response.old }
         ensures ok { OnOk result (AnswersAs route self.old request.now response.new self.new) }
-        ensures err { OnErr result (IsSame self.old self.new) }
+        ensures err { OnErr result (IsUnanswered route self.old self.new) }
     {
         match route {
             Route::Ask(question) => {
@@ -183,14 +184,14 @@ impl Desk {
     ) -> Result<(), Memory>
         requires { IsBlank response.old }
         ensures ok { OnOk result (IsHanded hand self.old request.now response.new self.new) }
-        ensures err { OnErr result (IsSame self.old self.new) }
+        ensures err { OnErr result (IsSpared self.old self.new) }
     {
         if !self.may_write(request) {
             response.status = StatusCode::UNAUTHORIZED;
             return Ok(());
         }
         let bytes = request.body().as_slice();
-        match self.accept(hand, bytes) {
+        match self.take_in(hand, bytes) {
             Ok(()) => {
                 self.standing.took();
                 response.status = StatusCode::NO_CONTENT;
@@ -204,6 +205,58 @@ impl Desk {
                 Ok(())
             }
         }
+    }
+
+    /// Accepts a piece, unless it is known. If memory runs out, older pieces are given up, and it is
+    /// tried once more.
+    ///
+    /// # Errors
+    ///
+    /// Those of the site. Nothing changes but the pieces that are kept.
+    fn take_in(&mut self, hand: Hand, bytes: &[u8]) -> Result<(), Refusal>
+        ensures ok { OnOk result (IsTaken (handed hand bytes.now) self.old self.new
+            ⊎ IsKnown (handed hand bytes.now) self.old self.new) }
+        ensures err { OnErr result (IsSpared self.old self.new) }
+    {
+        match self.accept_new(hand, bytes) {
+            Err(why) if why.kind == Kind::Memory => {
+                self.pieces.halve();
+                self.accept(hand, bytes)
+            }
+            done => done,
+        }
+    }
+
+    /// Accepts a piece, unless it is known.
+    ///
+    /// # Errors
+    ///
+    /// Those of the site. Nothing changes.
+    fn accept_new(&mut self, hand: Hand, bytes: &[u8]) -> Result<(), Refusal>
+        ensures ok { OnOk result (IsTaken (handed hand bytes.now) self.old self.new
+            ⊎ IsKnown (handed hand bytes.now) self.old self.new) }
+        ensures err { OnErr result (IsSame self.old self.new) }
+    {
+        if self.has(hand, bytes)? {
+            return Ok(());
+        }
+        self.accept(hand, bytes)
+    }
+
+    /// Whether a piece is found among those that were accepted, and brings nothing.
+    ///
+    /// # Errors
+    ///
+    /// `Memory`.
+    fn has(&self, hand: Hand, bytes: &[u8]) -> Result<bool, Refusal>
+        ensures { IfOk result (λ has. IsTrue has → IsKnown (handed hand bytes.now) self.now self.now) }
+    {
+        if !self.pieces.has(mark(hand), bytes).map_err(Memory::from)? {
+            return Ok(false);
+        }
+        let mut all = self.board.table().copy(self.alloc)?;
+        hand_over(&mut all, hand, bytes)?;
+        Ok(all.same(self.board.table()))
     }
 
     /// Accepts a piece, which then waits to reach the disk.

@@ -55,6 +55,18 @@ fn hand_of(first: u8) -> Hand
     }
 }
 
+/// How many bytes the snapshot has with which a journal of these entries begins: a state in its first
+/// entry; 0 where there is none.
+pub fn snapshot_in(entries: &[Vec<u8>]) -> usize {
+    match entries.first() {
+        Some(entry) => match parts_of(entry) {
+            (Hand::State, bytes) => bytes.len(),
+            (Hand::Text, _) => 0,
+        },
+        None => 0,
+    }
+}
+
 /// Hands a piece to a site: bytes that are no text are refused where they begin not to be.
 pub(crate) fn hand_over(site: &mut Replica, hand: Hand, bytes: &[u8]) -> Result<(), Refusal>
     ensures acceptable { OnOk result (IsAcceptable (handed hand bytes.now)) }

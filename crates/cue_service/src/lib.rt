@@ -13,13 +13,16 @@ mod metrics;
 mod page;
 mod refusal;
 mod route;
+mod shown;
 mod site;
+mod snapshots;
 mod standing;
 mod tag;
 
 pub use desk::{Desk, Token};
-pub use entries::add_entries;
+pub use entries::{add_entries, snapshot_in};
 pub use laws::{a_round_keeps_its_promise, calls_are_events};
 pub use route::{Hand, Route};
+pub use shown::{Shown, is_hidden};
 pub use site::Site;
 pub use standing::{SourceStanding, Standing};

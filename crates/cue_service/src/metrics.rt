@@ -1,6 +1,7 @@
 ghost use Rattle.std.specs.Prelude.{◌≡◌, IfOk};
 
 use crate::board::Board;
+use crate::shown::Shown;
 use crate::standing::Standing;
 use cue_answer::{Question, Status};
 use cue_lattice::Memory;
@@ -165,7 +166,7 @@ impl Standing {
         for source in &self.sources {
             if let Some(last) = source.last {
                 let age = self.now.saturating_sub(last);
-                let name = source.name.as_str();
+                let name = Shown(source.name.as_str());
                 write!(
                     text,
                     "cuestored_peer_age_seconds{{peer=\"{name}\"}} {age}\n"
@@ -179,7 +180,7 @@ impl Standing {
             "counter",
         )?;
         for source in &self.sources {
-            let (name, failures) = (source.name.as_str(), source.failures);
+            let (name, failures) = (Shown(source.name.as_str()), source.failures);
             write!(
                 text,
                 "cuestored_peer_failures_total{{peer=\"{name}\"}} {failures}\n"

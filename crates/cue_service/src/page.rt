@@ -1,6 +1,7 @@
 ghost use Rattle.std.specs.Prelude.{◌≡◌};
 
 use crate::board::Board;
+use crate::shown::is_hidden;
 use crate::standing::{SourceStanding, Standing};
 use cue_answer::{Question, Status};
 use cue_lattice::Memory;
@@ -85,7 +86,7 @@ fn peer_line(text: &mut String, source: &SourceStanding, now: u64) -> Result<(),
     Ok(())
 }
 
-/// Adds a text so that a browser shows it as it stands.
+/// Adds a text so that a browser shows it as it is, and each hidden character by its number.
 fn escape(page: &mut String, bytes: &[u8]) -> Result<(), Memory> {
     let Ok(text) = str::from_utf8(bytes) else {
         return Ok(());
@@ -96,6 +97,8 @@ fn escape(page: &mut String, bytes: &[u8]) -> Result<(), Memory> {
             '>' => page.push_str("&gt;")?,
             '&' => page.push_str("&amp;")?,
             '"' => page.push_str("&quot;")?,
+            '\n' | '\t' => page.push(c)?,
+            other if is_hidden(other) => write!(page, "\\u{{{:x}}}", u32::from(other))?,
             other => page.push(other)?,
         }
     }

@@ -6,23 +6,28 @@ ghost use Rattle.cue_journal.specs.Blocks.{recovered};
 ghost use Rattle.cue_journal.specs.Pairs.{IsPairReady, entries_of, is_whole, MayLeave};
 ghost use Rattle.cue_service.specs.Entries.{pieces_of};
 ghost use Rattle.cue_service.specs.Answering.{IsSame};
+ghost use Rattle.cue_service.specs.Listing.{AreListed};
+ghost use Rattle.cue_service.specs.Tags.{tag_of};
 ghost use Rattle.cue_service.specs.Pulls.{Covers, CoversAll, IsOfListed};
 
 use crate::desk::{Desk, Token};
 use crate::route::seconds_in;
+use crate::snapshots::Snapshots;
 use crate::standing::Standing;
 use bytes::Bytes;
 use cue_http::{Gathers, News};
-use cue_journal::Pair;
+use cue_journal::{Pair, Room};
 use cue_replica::Replica;
-use http::{Request, StatusCode};
+use http::{HeaderValue, Request, StatusCode};
 use http_server::{Response, Settle};
 use log::Log;
 use sqlite_disk::Disk;
 use std::alloc::{AllocError, Global};
+use std::io;
+use std::io::ErrorKind;
 
-/// A journal that has fewer bytes behind the last snapshot is not condensed.
-const LEAST_JOURNAL: usize = 1024 * 1024;
+/// No entry of a journal has as many bytes.
+const LONGEST: u64 = 1 << 32;
 
 /// The first byte of an entry of state bytes.
 const STATE: u8 = 1;
@@ -32,19 +37,46 @@ const STATE: u8 = 1;
 pub struct Site<D: Disk> {
     desk: Desk,
     files: Pair<D>,
-    /// How many bytes the last snapshot has, with which the journal begins.
-    snapshot: usize,
+    snapshots: Snapshots,
+    /// Why a round did not settle.
+    fault: Option<io::Error>,
+}
+
+/// Why a call failed.
+fn fault_of<T>(answer: &io::Result<T>) -> Option<io::Error> {
+    match answer {
+        Ok(_) => None,
+        Err(error) => Some(*error),
+    }
+}
+
+/// Notes what came of a snapshot of so many bytes.
+fn note(
+    snapshots: &mut Snapshots,
+    standing: &mut Standing,
+    size: usize,
+    condensed: &io::Result<Room>,
+) {
+    match condensed {
+        Ok(Room::Enough) => {
+            snapshots.written(size);
+            standing.condensed(size);
+        }
+        Ok(Room::Refused(error)) => standing.refused_snapshot(*error),
+        Err(_) => {}
+    }
 }
 
 impl<D: Disk> Site<D> {
     ghost use Rattle.cue_service.specs.Sites.{IsConsistent};
     ghost use Rattle.cue_service.specs.Inner.Rounds.{IsCommittedBy, IsCondensedBy};
 
-    /// A site over journals that were recovered, with the table of their entries, and a number that no
-    /// other run has.
+    /// A site over journals that were recovered, of which the one that grows begins with a snapshot of
+    /// so many bytes, with the table of their entries, and a number that no other run has.
     pub fn new(
         alloc: Global,
         files: Pair<D>,
+        snapshot: usize,
         board: Replica,
         token: Option<Token>,
         standing: Standing,
@@ -54,11 +86,14 @@ impl<D: Disk> Site<D> {
             → (pieces : List Piece) → IsOfPieces board pieces
             → pieces ≡ pieces_of (entries_of D.Disk.seen files)
             → IsConsistent D.Disk.seen D.Disk.may_leave result pieces pieces }
+        // It has accepted nothing yet.
+        ensures listed { AreListed [] result.desk.pieces }
     {
         Site {
             desk: Desk::new(alloc, board, token, standing, run),
             files,
-            snapshot: 0,
+            snapshots: Snapshots::new(snapshot),
+            fault: None,
         }
     }
 
@@ -66,33 +101,53 @@ impl<D: Disk> Site<D> {
     fn commit(&mut self) -> bool
         ensures { IsCommittedBy D.Disk.seen D.Disk.may_leave self.old result self.new }
     {
-        let Site { desk, files, .. } = self;
-        files.commit(&mut desk.batch).is_ok()
+        let Site {
+            desk,
+            files,
+            fault,
+            ..
+        } = self;
+        let done = files.commit(&mut desk.batch);
+        *fault = fault_of(&done);
+        done.is_ok()
     }
 
     /// Puts the state in the place of a journal that has become long since the last one: as long as
-    /// the last one itself. Answers whether nothing failed.
+    /// the last one itself. Where it can't be written the journal stays as it is, and the site goes
+    /// on. Answers whether nothing failed.
     fn condense(&mut self) -> bool
         ensures { IsCondensedBy D.Disk.seen D.Disk.may_leave self.old result self.new }
     {
         let Site {
             desk,
             files,
-            snapshot,
+            snapshots,
+            fault,
         } = self;
-        if files.grown() < LEAST_JOURNAL.max(*snapshot).saturating_add(*snapshot) {
+        let (grown, changes) = (files.grown(), desk.board.changes());
+        if !snapshots.is_due(grown, changes) {
+            return true;
+        }
+        snapshots.refuse(grown, changes);
+        let size = desk.board.table().state_size();
+        if size >= LONGEST {
+            desk.standing.too_long(size);
             return true;
         }
         let Ok(state) = desk.board.table().state(desk.alloc) else {
+            desk.standing
+                .refused_snapshot(ErrorKind::OutOfMemory.into());
             return true;
         };
         if desk.batch.push(STATE, &state).is_err() {
+            desk.standing
+                .refused_snapshot(ErrorKind::OutOfMemory.into());
             return true;
         }
-        let size = state.len();
-        *snapshot = size;
-        desk.standing.condensed(size);
-        files.condense(&mut desk.batch).is_ok()
+        let condensed = files.condense(&mut desk.batch);
+        *fault = fault_of(&condensed);
+        note(snapshots, &mut desk.standing, state.len(), &condensed);
+        condensed.is_ok()
     }
 }
 
@@ -159,6 +214,24 @@ impl<D: Disk> Gathers for Site<D> {
         ensures { IsUntouched self.old self.new }
     {
         self.desk.board.edition()
+    }
+
+    /// The tag of the table.
+    fn tag(&mut self) -> Option<HeaderValue>
+        ensures untouched { IsUntouched self.old self.new }
+        ensures tag { IfSome result (λ tag. tag.bytes ≡ tag_of self.old.desk.board) }
+    {
+        self.desk.board.tag().ok()
+    }
+
+    /// Why the last round did not settle.
+    fn fault(&mut self) -> io::Error
+        ensures { IsUntouched self.old self.new }
+    {
+        match self.fault.take() {
+            Some(error) => error,
+            None => ErrorKind::Other.into(),
+        }
     }
 
     /// Counts what happened.

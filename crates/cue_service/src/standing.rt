@@ -1,8 +1,10 @@
+use crate::shown::Shown;
 use cue_http::News;
 use cue_lattice::Kind;
 use http::StatusCode;
 use log::{Log, info, warn};
 use std::alloc::Global;
+use std::io;
 
 /// The greatest number of a kind of refusal.
 pub(crate) const MOST_KIND: usize = 25;
@@ -39,7 +41,10 @@ enum Note {
     Refused(Kind, u64),
     Failing(usize),
     Answering(usize),
+    Forgotten(usize),
     Condensed(usize),
+    NoSnapshot(io::Error),
+    TooLong(u64),
 }
 
 /// Counts of what came, for the answers of the site about itself.
@@ -122,6 +127,16 @@ impl Standing {
         self.note(Note::Condensed(bytes));
     }
 
+    /// A snapshot could not be written.
+    pub(crate) fn refused_snapshot(&mut self, error: io::Error) {
+        self.note(Note::NoSnapshot(error));
+    }
+
+    /// A state has so many bytes, more than an entry of a journal.
+    pub(crate) fn too_long(&mut self, size: u64) {
+        self.note(Note::TooLong(size));
+    }
+
     pub(crate) fn grown(&mut self, journal: usize) {
         self.journal = journal;
     }
@@ -140,6 +155,7 @@ impl Standing {
             }
             News::Answered(number) => self.answered(number),
             News::Failed(number) => self.failed(number),
+            News::Forgotten(number) => self.note(Note::Forgotten(number)),
         }
     }
 
@@ -176,9 +192,19 @@ impl Standing {
                     warn!(log; "refused {} {} at {}", kind.number(), kind.name(), place)
                 }
                 Note::Failing(number) =>
-                    warn!(log; "source {} does not answer", self.name_of(*number)),
-                Note::Answering(number) => info!(log; "source {} answers", self.name_of(*number)),
+                    warn!(log; "source {} does not answer", Shown(self.name_of(*number))),
+                Note::Answering(number) =>
+                    info!(log; "source {} answers", Shown(self.name_of(*number))),
+                Note::Forgotten(number) => {
+                    warn!(log; "source {} named a tag that is none, and is asked from the start", Shown(self.name_of(*number)))
+                }
                 Note::Condensed(bytes) => info!(log; "snapshot of {} bytes", bytes),
+                Note::NoSnapshot(error) => {
+                    warn!(log; "the snapshot was not written, and the journal grows on: {error}")
+                }
+                Note::TooLong(bytes) => {
+                    warn!(log; "no snapshot of a state of {bytes} bytes: an entry has less than 4 GiB")
+                }
             }
         }
         self.notes.clear();

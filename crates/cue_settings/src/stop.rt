@@ -1,26 +1,63 @@
-use cue_lattice::Refusal;
+ghost use Rattle.std.specs.Prelude.{◌≡◌, ◌≢◌, ◌⊎◌};
+ghost use Rattle.cue_lattice.specs.declared.refusal.Kind.TheVariants as kinds;
+ghost use Rattle.cue_settings.specs.Stops.{IsDamage, IsSystem};
+
+use cue_lattice::{Kind, Refusal};
+use std::alloc::Global;
+use std::io;
 use thiserror::Error;
 
-/// What keeps a site from its work.
+/// What keeps a site from its work, or ends it.
 #[derive(Debug, Drop, Error)]
 pub enum Stop {
-    #[error("another process has the folder open, or a file of it can't be used")]
-    Files,
+    /// An operation of the system on a file or an address failed.
+    #[error("{operation}: {error}: {file}")]
+    System {
+        operation: &'static str,
+        file: String,
+        error: io::Error,
+    },
+    #[error("{0}: another process has it open")]
+    Busy(String),
+    #[error("{0}: it can't be used, since something else has its name, or a sync of it failed")]
+    Unusable(String),
+    #[error("out of memory")]
+    OutOfMemory,
     #[error("the journal is damaged: entry refused, {0} {1} at {2}")]
     Journal(u8, &'static str, u64),
     #[error("no address: --listen takes ADDRESS:PORT")]
     Listen,
     #[error("no address of a peer: --peer takes http://HOST:PORT")]
     Peer,
-    #[error("the file of the token is empty")]
-    Token,
+    #[error("{0}: the file of the token is empty")]
+    Token(String),
     #[error("without --token-file it listens on loopback addresses alone, since anybody could write")]
     OpenToAll,
 }
 
 impl Stop {
-    /// An entry of a journal that a site refuses.
-    pub fn of_entry(why: Refusal) -> Stop {
-        Stop::Journal(why.kind.number(), why.kind.name(), why.place)
+    /// Why an entry of a journal is refused: memory ran out, or the journal is damaged.
+    pub fn of_entry(why: Refusal) -> Stop
+        ensures memory { why.kind ≡ kinds.Memory → result ≡ Stop.OutOfMemory }
+        ensures damage { why.kind ≢ kinds.Memory → IsDamage result }
+    {
+        match why.kind {
+            Kind::Memory => Stop::OutOfMemory,
+            kind => Stop::Journal(kind.number(), kind.name(), why.place),
+        }
+    }
+
+    /// An operation of the system on a file that failed.
+    pub fn system(alloc: Global, operation: &'static str, file: &str, error: io::Error) -> Stop
+        ensures { (result ≡ Stop.OutOfMemory) ⊎ IsSystem operation.now error result }
+    {
+        match String::from_str(alloc, file) {
+            Ok(file) => Stop::System {
+                operation,
+                file,
+                error,
+            },
+            Err(_) => Stop::OutOfMemory,
+        }
     }
 }

@@ -1,7 +1,9 @@
-ghost use Rattle.std.specs.Prelude.{◌≡◌};
+ghost use Rattle.std.specs.Prelude.{◌≡◌, ◌*◌};
+ghost use Rattle.std.specs.Duration.{as_nanos};
 
 use crate::stop::Stop;
 use anyhow::Result;
+use clap::builder::ValueParser;
 use clap::{Arg, ArgAction, ArgMatches, Command, value_parser};
 use cue_http::{Bounds, Source};
 use http_server::Config;
@@ -45,7 +47,11 @@ pub fn command<'a>(alloc: Global) -> Result<Command<'a>, AllocError> {
     Command::new(alloc, "cuestored")
         .version("0.1.0")
         .about("A site of the configuration store that stays up, over HTTP")
-        .arg(value(alloc, "data", "DIR", "The folder of the journal").required(true))?
+        .arg(
+            value(alloc, "data", "DIR", "The folder of the journal")
+                .value_parser(ValueParser::NonEmptyString)
+                .required(true),
+        )?
         .arg(value(alloc, "listen", "ADDRESS:PORT", "Where to listen").default_value(
             "127.0.0.1:8420",
         ))?
@@ -114,10 +120,18 @@ pub fn words_of<'a>(alloc: Global, matches: &ArgMatches<'a>) -> Result<Words<'a>
     })
 }
 
+/// The first address that a name and a port have.
+fn looked_up(rt: &HostRuntime, name: &str) -> Result<Option<SocketAddr>> {
+    match name.to_socket_addrs(rt) {
+        Ok(mut addresses) => Ok(addresses.next()),
+        Err(error) => Err(Stop::system(rt.alloc(), "look up", name, error).into()),
+    }
+}
+
 impl<'a> Words<'a> {
     /// The address to listen on.
     pub fn listen(&self, rt: &HostRuntime) -> Result<SocketAddr> {
-        match self.listen.to_socket_addrs(rt)?.next() {
+        match looked_up(rt, self.listen)? {
             Some(address) => Ok(address),
             None => Err(Stop::Listen.into()),
         }
@@ -131,7 +145,7 @@ impl<'a> Words<'a> {
                 return Err(Stop::Peer.into());
             };
             let host = host.strip_suffix("/").unwrap_or(host);
-            match host.to_socket_addrs(rt)?.next() {
+            match looked_up(rt, host)? {
                 Some(at) => sources.push(Source { at })?,
                 None => return Err(Stop::Peer.into()),
             }
@@ -143,8 +157,10 @@ impl<'a> Words<'a> {
     pub fn bounds(&self) -> Bounds
         ensures most { result.most ≡ self.now.most }
         ensures waiting { result.waiting ≡ self.now.waiting }
-        ensures body { result.config.max_body_len ≡ MOST_BODY }
-        ensures pending { result.config.max_pending ≡ MOST_PENDING }
+        ensures body { result.config.max_body_len ≡ 67_108_864 }
+        ensures pending { result.config.max_pending ≡ 262_144 }
+        ensures idle { as_nanos result.idle ≡ self.now.idle * 1_000_000_000 }
+        ensures every { as_nanos result.every ≡ self.now.every * 1_000_000_000 }
     {
         let config = Config {
             max_body_len: MOST_BODY,

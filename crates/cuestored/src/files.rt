@@ -1,24 +1,25 @@
 use anyhow::Result;
 use cue_journal::{Journal, Pair, recover};
 use cue_replica::Replica;
-use cue_service::{Site, SourceStanding, Standing, Token, add_entries};
+use cue_service::{Site, SourceStanding, Standing, Token, add_entries, snapshot_in};
 use cue_settings::{Stop, Words, grows};
 use log::{Log, info};
 use sqlite_disk::{Disk, Files};
-use sqlite_std_file::{FileFrom, Unknown, open};
+use sqlite_std_file::{FileFrom, OpenError, Unknown, open};
 use std::alloc::Global;
-use std::fs;
-use std::io::Read;
+use std::io::{ErrorKind, Read};
 use std::random::RandomSource;
+use std::{fs, io};
 
 /// The files that a site is kept in, of which the longer journal grows.
 type File = FileFrom<Unknown>;
 
 /// The word in a file, without the line break behind it.
 pub fn token_in(rt: &HostRuntime, path: &str) -> Result<Token> {
-    let mut bytes = Vec::new(rt.alloc());
-    let mut file = fs::File::open(rt, path)?;
-    file.read_to_end(&mut bytes)?;
+    let alloc = rt.alloc();
+    let mut bytes = Vec::new(alloc);
+    let mut file = on_file(alloc, "open", path, fs::File::open(rt, path))?;
+    on_file(alloc, "read", path, file.read_to_end(&mut bytes))?;
     while let Some(last) = bytes.last() {
         if !last.is_ascii_whitespace() {
             break;
@@ -26,9 +27,58 @@ pub fn token_in(rt: &HostRuntime, path: &str) -> Result<Token> {
         bytes.pop();
     }
     if bytes.is_empty() {
-        return Err(Stop::Token.into());
+        return Err(Stop::Token(String::from_str(alloc, path)?).into());
     }
     Ok(Token { bytes })
+}
+
+/// What an operation on a file gave, or that it failed.
+fn on_file<T>(
+    alloc: Global,
+    operation: &'static str,
+    file: &str,
+    answer: io::Result<T>,
+) -> Result<T> {
+    match answer {
+        Ok(value) => Ok(value),
+        Err(error) => Err(Stop::system(alloc, operation, file, error).into()),
+    }
+}
+
+/// The folder that a file or folder lies in.
+fn above(path: &str) -> &str {
+    match path.trim_end_matches('/').rsplit_once('/') {
+        Some(("", _)) => "/",
+        Some((above, _)) => above,
+        None => ".",
+    }
+}
+
+/// Makes a folder where it is missing, and has that reach the disk.
+fn make_folder(rt: &HostRuntime, path: &str) -> Result<()> {
+    if let Ok(true) = fs::exists(rt, path) {
+        return Ok(());
+    }
+    let alloc = rt.alloc();
+    match fs::create_dir(rt, path) {
+        Err(error) if error.kind() == ErrorKind::AlreadyExists => return Ok(()),
+        made => on_file(alloc, "mkdir", path, made)?,
+    }
+    let above = above(path);
+    let folder = on_file(alloc, "open", above, fs::File::open(rt, above))?;
+    on_file(alloc, "sync", above, folder.sync_all())
+}
+
+/// Makes a folder, and those above it that are missing, and has each reach the disk.
+fn make_folders(rt: &HostRuntime, path: &str) -> Result<()> {
+    for (end, byte) in path.bytes().enumerate() {
+        if byte == b'/' && end > 0 {
+            if let Some(front) = path.get(..end) {
+                make_folder(rt, front)?;
+            }
+        }
+    }
+    make_folder(rt, path)
 }
 
 /// What one file brings: where its journal goes on, and the entries.
@@ -40,11 +90,11 @@ struct Recovered {
 }
 
 /// What a file brings, if it can be read as it was left.
-fn recover_from(alloc: Global, mut disk: File) -> Result<Recovered> {
+fn recover_from(alloc: Global, path: &str, mut disk: File) -> Result<Recovered> {
     if !disk.may_be_used() {
-        return Err(Stop::Files.into());
+        return Err(Stop::Unusable(String::from_str(alloc, path)?).into());
     }
-    let (end, entries) = recover(alloc, &mut disk)?;
+    let (end, entries) = on_file(alloc, "read", path, recover(alloc, &mut disk))?;
     Ok(Recovered { disk, end, entries })
 }
 
@@ -56,6 +106,18 @@ fn board_of(alloc: Global, first: &[Vec<u8>], second: &[Vec<u8>]) -> Result<Repl
     Ok(board)
 }
 
+/// Both files of a journal.
+fn open_files(rt: &HostRuntime, path: &str) -> Result<Files<File>> {
+    let alloc = rt.alloc();
+    match open(rt, path, Unknown) {
+        Ok(files) => Ok(files),
+        Err(OpenError::Io(error)) => Err(Stop::system(alloc, "open", path, error).into()),
+        Err(OpenError::OutOfMemory) => Err(Stop::OutOfMemory.into()),
+        Err(OpenError::Busy) => Err(Stop::Busy(String::from_str(alloc, path)?).into()),
+        Err(OpenError::HotJournal) => Err(Stop::Unusable(String::from_str(alloc, path)?).into()),
+    }
+}
+
 /// The site that the folder keeps, or a new one.
 pub fn open_site<L: Log>(
     rt: &HostRuntime,
@@ -64,17 +126,15 @@ pub fn open_site<L: Log>(
     token: Option<Token>,
 ) -> Result<Site<File>> {
     let alloc = rt.alloc();
-    fs::create_dir_all(rt, words.data)?;
+    make_folders(rt, words.data)?;
     let path = format!(in alloc; "{}/journal", words.data)?;
-    let Ok(files) = open(rt, path.as_str(), Unknown) else {
-        return Err(Stop::Files.into());
-    };
+    let beside = format!(in alloc; "{}/journal-wal", words.data)?;
     let Files {
         log: one,
         db: other,
-    } = files;
-    let one = recover_from(alloc, one)?;
-    let other = recover_from(alloc, other)?;
+    } = open_files(rt, path.as_str())?;
+    let one = recover_from(alloc, beside.as_str(), one)?;
+    let other = recover_from(alloc, path.as_str(), other)?;
     let (growing, spare) = if grows(one.end, other.end) {
         (one, other)
     } else {
@@ -82,12 +142,21 @@ pub fn open_site<L: Log>(
     };
     let board = board_of(alloc, &spare.entries, &growing.entries)?;
     info!(log; "{} entries of {} bytes", spare.entries.len() + growing.entries.len(), board.state_size());
+    let snapshot = snapshot_in(&growing.entries);
     let files = Pair::new(
         Journal::new(growing.disk, growing.end),
         Journal::new(spare.disk, spare.end),
     );
     let standing = standing(alloc, words)?;
-    Ok(Site::new(alloc, files, board, token, standing, run_number(rt)?))
+    Ok(Site::new(
+        alloc,
+        files,
+        snapshot,
+        board,
+        token,
+        standing,
+        run_number(rt)?,
+    ))
 }
 
 /// A number for this run, which no other has that began at another moment.

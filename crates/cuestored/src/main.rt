@@ -7,12 +7,14 @@ mod files;
 use crate::files::{open_site, token_in};
 use anyhow::Result;
 use clap::error::Error;
-use cue_http::serve;
+use cue_http::{Ended, serve};
+use cue_service::{Shown, Token};
 use cue_settings::{Stop, Words, command, may_listen, words_of};
 use log::sink::Console;
-use log::{Level, Logged, error, info};
+use log::{Level, Log, Logged, error, info};
 use mio::net::TcpListener;
 use std::env;
+use std::net::SocketAddr;
 use std::process::ExitCode;
 
 /// Serves until a round does not stand.
@@ -26,13 +28,43 @@ fn run(rt: &HostRuntime, words: &Words) -> Result<()> {
     if !may_listen(token.is_some(), listen.ip().is_loopback()) {
         return Err(Stop::OpenToAll.into());
     }
+    serve_at(rt, &log, words, listen, token)
+}
+
+/// Opens the site, and serves at an address until a round fails to settle.
+fn serve_at<L: Log>(
+    rt: &HostRuntime,
+    log: &L,
+    words: &Words,
+    listen: SocketAddr,
+    token: Option<Token>,
+) -> Result<()> {
     let sources = words.sources(rt)?;
-    let site = open_site(rt, &log, words, token)?;
-    let listener = TcpListener::bind(rt, listen)?;
+    let site = open_site(rt, log, words, token)?;
+    let listener = match TcpListener::bind(rt, listen) {
+        Ok(listener) => listener,
+        Err(error) => return Err(Stop::system(rt.alloc(), "listen on", words.listen, error).into()),
+    };
     let address = listener.local_addr()?;
     info!(log; "listening on http://{address}");
-    serve(rt, &log, listener, words.bounds(), &sources, site, u64::MAX)?;
-    Ok(())
+    match serve(rt, log, listener, words.bounds(), &sources, site, u64::MAX) {
+        Ok(()) => Ok(()),
+        Err(ended) => Err(stop_of(rt, words, ended)?.into()),
+    }
+}
+
+/// What ended a site over these files.
+fn stop_of(rt: &HostRuntime, words: &Words, ended: Ended) -> Result<Stop> {
+    let alloc = rt.alloc();
+    Ok(match ended {
+        Ended::Unsettled(error) => {
+            let data = words.data;
+            let files = format!(in alloc; "{data}/journal or journal-wal")?;
+            Stop::system(alloc, "write", files.as_str(), error)
+        }
+        Ended::System(call, error) => Stop::system(alloc, call, words.listen, error),
+        Ended::OutOfMemory => Stop::OutOfMemory,
+    })
 }
 
 /// Does what these words ask for, the name of the program in front, and answers the exit status.
@@ -50,7 +82,8 @@ fn answer(rt: &HostRuntime, given: &[String]) -> Result<ExitCode> {
         Ok(()) => Ok(ExitCode::SUCCESS),
         Err(stop) => {
             let log = Logged::new(rt, Level::Info, Console(rt));
-            error!(log; "{stop}");
+            let line = format!(in rt.alloc(); "{stop}")?;
+            error!(log; "{}", Shown(line.as_str()));
             Ok(ExitCode::FAILURE)
         }
     }

@@ -1,6 +1,6 @@
 //! Journals over disks in memory, also over one that fails at a call.
 
-use cue_journal::{Batch, Journal, Pair, Unfit, read_pieces, recover};
+use cue_journal::{Batch, Journal, Pair, Room, Unfit, read_pieces, recover};
 use sqlite_disk::{Disk, Fuse, Memory};
 use std::alloc::Global;
 use std::io;
@@ -63,8 +63,10 @@ fn condensed(alloc: Global, calls: u64) -> io::Result<usize> {
     if batch.push(1, b"all").is_err() {
         return Err(io::ErrorKind::OutOfMemory.into());
     }
-    pair.condense(&mut batch)?;
-    Ok(pair.grown())
+    match pair.condense(&mut batch)? {
+        Room::Enough => Ok(pair.grown()),
+        Room::Refused(error) => Err(error),
+    }
 }
 
 #[test]

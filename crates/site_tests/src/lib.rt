@@ -6,6 +6,8 @@
 #[cfg(test)]
 mod journals;
 #[cfg(test)]
+mod pieces;
+#[cfg(test)]
 mod sites;
 #[cfg(test)]
 mod sockets;

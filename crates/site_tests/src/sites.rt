@@ -4,11 +4,14 @@ use bytes::{Buf, Bytes};
 use cue_http::{Gathers, News};
 use cue_journal::{Journal, Pair, Unfit};
 use cue_replica::Replica;
-use cue_service::{Desk, Site, SourceStanding, Standing, Token, add_entries};
+use cue_service::{
+    Desk, Shown, Site, SourceStanding, Standing, Token, add_entries, is_hidden, snapshot_in,
+};
 use http::Request;
 use http_server::{Response, Settle};
 use sqlite_disk::Memory;
 use std::alloc::Global;
+use std::io::ErrorKind;
 use std::test::Fail;
 
 /// The number of the run of each site.
@@ -23,7 +26,7 @@ pub fn new_site(alloc: Global, word: Option<Token>) -> Result<Site<Memory>, Fail
         Journal::new(Memory::new(alloc), 0),
     );
     let standing = Standing::new(alloc, sources);
-    Ok(Site::new(alloc, files, Replica::new(alloc), word, standing, RUN))
+    Ok(Site::new(alloc, files, 0, Replica::new(alloc), word, standing, RUN))
 }
 
 /// A method and a path, a body, and the status and the first bytes of the answer.
@@ -78,6 +81,106 @@ const TOLD: &[Row] = &[
     ("GET /export", b"", 409, b"conflict port no value\n"),
 ];
 
+/// What a site answers to one piece that is sent twice: it is known, and not listed again.
+const TWICE: &[Row] = &[
+    ("POST /fragments", b"port: 443", 204, b""),
+    ("GET /pieces?after=7-1", b"", 200, b""),
+    ("POST /fragments", b"port: 443", 204, b""),
+    ("GET /pieces?after=7-1", b"", 200, b""),
+    ("GET /pieces?after=7-2", b"", 410, b""),
+    ("POST /fragments", b"port: 443 // again", 204, b""),
+    ("GET /pieces?after=7-2", b"", 200, b""),
+];
+
+#[test]
+fn a_known_piece_changes_nothing(rt: HostRuntime) -> Result<(), Fail> {
+    assert!(rt; new_answers(rt.alloc(), None, TWICE)?);
+    Ok(())
+}
+
+/// A site whose journal begins with a snapshot of so many bytes.
+fn site_behind(alloc: Global, snapshot: usize) -> Site<Memory> {
+    let files = Pair::new(
+        Journal::new(Memory::new(alloc), 0),
+        Journal::new(Memory::new(alloc), 0),
+    );
+    let standing = Standing::new(alloc, Vec::new(alloc));
+    Site::new(
+        alloc,
+        files,
+        snapshot,
+        Replica::new(alloc),
+        None,
+        standing,
+        RUN,
+    )
+}
+
+/// Sends a site a text of 800,000 bytes, most of which are a comment.
+fn post_long(alloc: Global, site: &mut Site<Memory>, text: &[u8]) -> Result<(), Fail> {
+    let mut bytes = Vec::from_slice(alloc, text)?;
+    bytes.resize(800_000, b'x')?;
+    let request = Request::builder(alloc)
+        .method("POST")
+        .uri("/fragments")
+        .body(Bytes::from_vec(bytes)?)?;
+    let mut response = Response::new(alloc);
+    site.call(&request, &mut response)?;
+    Ok(())
+}
+
+/// Whether a site whose journal begins with a snapshot of so many bytes writes one once it has more
+/// than 1 MiB.
+fn condenses(alloc: Global, snapshot: usize) -> Result<bool, Fail> {
+    let mut site = site_behind(alloc, snapshot);
+    post_long(alloc, &mut site, b"port: 443 // 1")?;
+    post_long(alloc, &mut site, b"port: 443 // 2")?;
+    let stands = site.settle();
+    let text = text_at(alloc, &mut site, "/metrics")?;
+    Ok(stands && text.windows(WRITTEN.len()).any(|part| part == WRITTEN))
+}
+
+const WRITTEN: &[u8] = b"cuestored_snapshots_total 1\n";
+
+/// What a site answers to a question.
+fn text_at(alloc: Global, site: &mut Site<Memory>, path: &str) -> Result<Vec<u8>, Fail> {
+    let request = Request::builder(alloc)
+        .method("GET")
+        .uri(path)
+        .body(Bytes::new())?;
+    let mut response = Response::new(alloc);
+    site.call(&request, &mut response)?;
+    Ok(Vec::from_slice(alloc, response.body.chunk())?)
+}
+
+#[test]
+fn a_snapshot_waits_for_as_much_again(rt: HostRuntime) -> Result<(), Fail> {
+    assert!(rt; condenses(rt.alloc(), 0)?);
+    assert!(rt; !condenses(rt.alloc(), 1_000_000)?);
+    let mut entries = Vec::new(rt.alloc());
+    assert_eq!(rt; snapshot_in(&entries), 0);
+    entries.push(Vec::from_slice(rt.alloc(), b"\x01state")?)?;
+    assert_eq!(rt; snapshot_in(&entries), 5);
+    Ok(())
+}
+
+#[test]
+fn what_is_hidden_is_written_as_a_number(rt: HostRuntime) -> Result<(), Fail> {
+    let shown = format!(in rt.alloc(); "{}", Shown("a\u{202e}b\u{85}"))?;
+    assert_eq!(rt; shown.as_str(), "a\\u{202e}b\\u{85}");
+    assert!(rt; is_hidden('\u{2066}') && !is_hidden('a'));
+    let mut site = new_site(rt.alloc(), None)?;
+    let rows: &[Row] = &[("POST /fragments", b"a: \"\\u202e\"", 204, b"")];
+    assert!(rt; answers_all(rt.alloc(), &mut site, rows)?);
+    let page = text_at(rt.alloc(), &mut site, "/")?;
+    assert!(rt;
+        !page
+            .windows(3)
+            .any(|part| part == b"\xE2\x80\xAE".as_slice())
+    );
+    Ok(())
+}
+
 #[test]
 fn pieces_are_taken_and_told(rt: HostRuntime) -> Result<(), Fail> {
     assert!(rt; new_answers(rt.alloc(), None, TOLD)?);
@@ -97,7 +200,7 @@ fn a_word_is_wanted(rt: HostRuntime) -> Result<(), Fail> {
 /// The state of a site that has taken a text.
 fn state_of(alloc: Global, text: &str) -> Result<Vec<u8>, Fail> {
     let mut site = Replica::new(alloc);
-    let _ = site.submit(text);
+    site.submit(text)?;
     Ok(site.state(alloc)?)
 }
 
@@ -116,10 +219,15 @@ fn gathers(site: &mut Site<Memory>, state: &[u8]) -> bool {
     let before = site.edition();
     let taken = site.pulled(state) && site.edition() != before && !site.pulled(b"no state");
     let pieces = site.pulled_pieces(BLOCK) && !site.pulled_pieces(b"no pieces");
-    for news in [News::Now(7), News::Answered(0), News::Failed(0)] {
+    for news in [
+        News::Now(7),
+        News::Answered(0),
+        News::Failed(0),
+        News::Forgotten(0),
+    ] {
         site.hear(news);
     }
-    taken && pieces
+    taken && pieces && site.tag().is_some() && site.fault().kind() == ErrorKind::Other
 }
 
 #[test]

@@ -6,11 +6,11 @@ use Rattle.cue_service.proofs.site.Site.commit.Goals as goal
 pub returns : goal.returns
 returns g c = record {
   consistent = λ on_disk pieces stands before.
-      let done = took c.commit.result (sym c.is_ok.ensures.value ∙ stands) c.commit.ensures.acknowledged before.ready before.batch in
-      committed g.D.Disk.seen g.D.Disk.may_leave c.args.self.now _ on_disk pieces before done.0 done.1 refl c.commit.ensures.empty;
-  crash = λ on_disk pieces before left may. commit_leaves g.D.Disk.seen g.D.Disk.may_leave c.args.self.now on_disk pieces left before (c.commit.ensures.crash before.ready before.batch left may);
-  whole_before = λ stands. (took c.commit.result (sym c.is_ok.ensures.value ∙ stands) c.commit.ensures.whole).0;
-  broken_after = λ fails. refused c.commit.result (sym c.is_ok.ensures.value ∙ fails) c.commit.ensures.broken;
+      let done = took c.commit-done.result (sym c.is_ok.ensures.value ∙ stands) c.commit-done.ensures.acknowledged before.ready before.batch in
+      committed g.D.Disk.seen g.D.Disk.may_leave c.args.self.now _ on_disk pieces before done.0 done.1 refl c.commit-done.ensures.empty;
+  crash = λ on_disk pieces before left may. commit_leaves g.D.Disk.seen g.D.Disk.may_leave c.args.self.now on_disk pieces left before (c.commit-done.ensures.crash before.ready before.batch left may);
+  whole_before = λ stands. (took c.commit-done.result (sym c.is_ok.ensures.value ∙ stands) c.commit-done.ensures.whole).0;
+  broken_after = λ fails. refused c.commit-done.result (sym c.is_ok.ensures.value ∙ fails) c.commit-done.ensures.broken;
   listed = refl;
-  empty = c.commit.ensures.empty;
+  empty = c.commit-done.ensures.empty;
 }

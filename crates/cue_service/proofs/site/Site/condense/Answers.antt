@@ -2,8 +2,8 @@ use Rattle.std.proofs.Common.{◌<◌, ◌^◌, length, sym, ap, ◌∙◌, refl
 use Rattle.cue_journal.specs.Batches.{batch_bytes}
 use Rattle.cue_replica.specs.Language.{language}
 use Rattle.cue_replica.proofs.Sound.{sound}
-use Rattle.cue_service.proofs.Condensing.{condensed_site, condensed_left}
-use Rattle.cue_service.proofs.Opening.{not_failed, took, refused}
+use Rattle.cue_service.proofs.Condensing.{condensed_left, condensed_or_kept}
+use Rattle.cue_service.proofs.Opening.{not_failed, refused}
 use Rattle.cue_service.proofs.site.Site.condense.Goals as goal
 
 pub returns : goal.returns
@@ -12,14 +12,14 @@ returns g c =
     let bytes = c.deref.result.now in
     let short : length bytes < 2 ^ 32 = not_failed c.push.result fine c.push.ensures.fits in
     let added = not_failed c.push.result fine c.push.ensures.ok in
-    let written = c.deref.ensures.value ∙ c.in-Ok.ensures ∙ ap language.written c.table.ensures in
+    let written = c.deref.ensures.value ∙ c.in-Ok.ensures ∙ ap language.written c.table-2.ensures in
     record {
       consistent = λ pieces stands empty before.
-          condensed_site g.D.Disk.seen g.D.Disk.may_leave sound c.args.self.now _ pieces bytes (batch_bytes c.push.new.self) before empty (omega (arith, short)) written added
-          (took c.condense.result (sym c.is_ok.ensures.value ∙ stands) c.condense.ensures.condensed) refl c.condense.ensures.empty;
+          condensed_or_kept g.D.Disk.seen g.D.Disk.may_leave sound c.condense-condensed.result (sym c.is_ok.ensures.value ∙ stands) c.args.self.now _ pieces bytes (batch_bytes c.push.new.self) before empty
+          (omega (arith, short)) written added c.condense-condensed.ensures.condensed c.condense-condensed.ensures.kept refl c.condense-condensed.ensures.empty;
       crash = λ pieces empty before left may.
           condensed_left g.D.Disk.seen g.D.Disk.may_leave sound c.args.self.now pieces bytes (batch_bytes c.push.new.self) before empty (omega (arith, short)) written added left
-          (λ ready batch. c.condense.ensures.crash ready batch left may);
+          (λ ready batch. c.condense-condensed.ensures.crash ready batch left may);
       listed = refl;
-      broken_after = λ fails. refused c.condense.result (sym c.is_ok.ensures.value ∙ fails) c.condense.ensures.broken;
+      broken_after = λ fails. refused c.condense-condensed.result (sym c.is_ok.ensures.value ∙ fails) c.condense-condensed.ensures.broken;
     }

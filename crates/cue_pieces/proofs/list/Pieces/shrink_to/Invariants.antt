@@ -1,11 +1,11 @@
 use Rattle.std.proofs.Common.{length}
 use Rattle.cue_pieces.specs.Inner.{AreSound}
 use Rattle.cue_pieces.specs.Listed.{GivesUpBeyond}
-use Rattle.cue_pieces.proofs.list.Pieces.trim.Given as goal
+use Rattle.cue_pieces.proofs.list.Pieces.shrink_to.Given as goal
 
 abbrev pub invariant-loop-self : goal.invariant-loop-self
 invariant-loop-self l =
-    GivesUpBeyond 16777216 l.fn.self (record { run = l.self-inside.run; given_up = l.self-inside.given_up; kept = l.self-inside.kept.items })
+    GivesUpBeyond l.fn.most l.fn.self (record { run = l.self-inside.run; given_up = l.self-inside.given_up; kept = l.self-inside.kept.items })
     × AreSound l.self-inside.given_up l.self-inside.size l.self-inside.kept.items
 
 abbrev pub decreases-loop-self : goal.decreases-loop-self

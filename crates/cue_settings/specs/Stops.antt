@@ -1,0 +1,15 @@
+-- What keeps a site from its work.
+use Rattle.std.specs.Prelude.{◌≡◌, ℕ, List}
+use Rattle.std.specs.declared.io.Error.{Error}
+use Rattle.cue_settings.specs.declared.stop.Stop.{Stop}
+use Rattle.cue_settings.specs.declared.stop.Stop.TheVariants as stops
+
+-- a journal that is damaged
+abbrev pub IsDamage : Stop → Type 0
+IsDamage (stops.Journal number name place) = Unit {0}
+IsDamage other = ⊥
+
+-- this operation of the system failed, with this error
+abbrev pub IsSystem : List ℕ → Error → Stop → Type 0
+IsSystem operation error (stops.System said file why) = (said.now ≡ operation) × (why ≡ error)
+IsSystem operation error other = ⊥
