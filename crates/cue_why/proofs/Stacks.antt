@@ -6,9 +6,9 @@ use Rattle.cue_row.specs.Row.{RowRefuses}
 use Rattle.cue_row.specs.declared.parts.RowParts.{RowParts as Row}
 use Rattle.cue_policies.specs.View.{PartRefuses}
 use Rattle.cue_why.specs.Least.{IsLeft}
-use Rattle.cue_why.specs.Sources.{source_part}
+
 use Rattle.cue_why.specs.Inner.Findings.{Meets}
-use Rattle.cue_why.specs.Inner.Stacks.{LineRefuses, IsTrailOf, ahead_of, IsStack, Suffice}
+use Rattle.cue_why.specs.Inner.Stacks.{LineRefuses, IsTrailOf, ahead_of, IsStack, Suffice, source_part}
 use Rattle.cue_why.specs.Inner.Trails.{TrailRefuses, AreMet}
 use Rattle.cue_why.specs.declared.finding.Finding.{Finding}
 use Rattle.cue_why.specs.declared.least.Traced.{Traced}

@@ -12,9 +12,9 @@ use Rattle.cue_row.specs.Steps.{step_of}
 use Rattle.cue_row.specs.declared.parts.RowParts.{RowParts as Row}
 use Rattle.cue_row.specs.declared.step.Step.{Step as Code}
 use Rattle.cue_table.specs.Tree.{Tree}
-use Rattle.cue_why.specs.Sources.{source_part}
+
 use Rattle.cue_why.specs.Inner.Parts.{AreParts, IsBelow, IsIn, Holds}
-use Rattle.cue_why.specs.Inner.Stacks.{IsTrailOf, LineRefuses}
+use Rattle.cue_why.specs.Inner.Stacks.{IsTrailOf, LineRefuses, source_part}
 use Rattle.cue_why.specs.Inner.Trails.{IsTrail}
 use Rattle.cue_why.specs.declared.part.WrittenPart.{WrittenPart}
 use Rattle.cue_why.specs.declared.source.Source.{Source}

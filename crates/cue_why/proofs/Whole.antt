@@ -17,9 +17,9 @@ use Rattle.cue_table.specs.Tree.{Tree}
 use Rattle.cue_why.specs.Finding.{IsClear}
 use Rattle.cue_why.specs.Least.{IsLeft, IsLeast}
 use Rattle.cue_why.specs.Reported.{IsReported}
-use Rattle.cue_why.specs.Sources.{source_part, SourcesRefuse, SourcesMake}
+use Rattle.cue_why.specs.Sources.{SourcesRefuse, SourcesMake}
 use Rattle.cue_why.specs.Inner.Findings.{IsFinding, IsReportedAs}
-use Rattle.cue_why.specs.Inner.Stacks.{LineRefuses, IsTrailOf, Suffice}
+use Rattle.cue_why.specs.Inner.Stacks.{LineRefuses, IsTrailOf, Suffice, source_part}
 use Rattle.cue_why.specs.Inner.Trails.{TrailRefuses}
 use Rattle.cue_why.specs.declared.finding.Finding.{Finding}
 use Rattle.cue_why.specs.declared.source.Source.{Source}

@@ -3,14 +3,9 @@ use Rattle.std.specs.Prelude.{List, map}
 use Rattle.cue_lattice.specs.Path.{Path}
 use Rattle.cue_lattice.specs.Question.{Refusals}
 use Rattle.cue_policies.specs.Laws.{Parts}
-use Rattle.cue_policies.specs.Tables.{table_part, TablesRefuse}
-use Rattle.cue_policies.specs.View.{Part}
+use Rattle.cue_policies.specs.Tables.{TablesRefuse}
 use Rattle.cue_why.specs.Finding.{Makes}
 use Rattle.cue_why.specs.declared.source.Source.{Source}
-
--- the source as a part of a view
-abbrev pub source_part : Source → Part
-source_part source = table_part (source.kind, source.table.now)
 
 -- each source, with its kind and its table
 abbrev pub tables_of : List Source → Parts

@@ -5,13 +5,17 @@ use Rattle.cue_lattice.specs.Path.{Path}
 use Rattle.cue_lattice.specs.Question.{Refusals}
 use Rattle.cue_row.specs.Row.{RowRefuses}
 use Rattle.cue_row.specs.declared.parts.RowParts.{RowParts as Row}
-use Rattle.cue_policies.specs.View.{PartRefuses}
-use Rattle.cue_why.specs.Sources.{source_part}
+use Rattle.cue_policies.specs.Tables.{table_part}
+use Rattle.cue_policies.specs.View.{Part, PartRefuses}
 use Rattle.cue_why.specs.Inner.Findings.{Meets}
 use Rattle.cue_why.specs.Inner.Trails.{IsTrail}
 use Rattle.cue_why.specs.declared.finding.Finding.{Finding}
 use Rattle.cue_why.specs.declared.least.Traced.{Traced}
 use Rattle.cue_why.specs.declared.source.Source.{Source}
+
+-- the source as a part of a view
+abbrev pub source_part : Source → Part
+source_part source = table_part (source.kind, source.table.now)
 
 -- what one of the sources refuses, whatever is declared
 abbrev pub LineRefuses : List Source → Refusals
