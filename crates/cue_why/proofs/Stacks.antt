@@ -6,7 +6,6 @@ use Rattle.cue_row.specs.Row.{RowRefuses}
 use Rattle.cue_row.specs.declared.parts.RowParts.{RowParts as Row}
 use Rattle.cue_policies.specs.View.{PartRefuses}
 use Rattle.cue_why.specs.Least.{IsLeft}
-
 use Rattle.cue_why.specs.Inner.Findings.{Meets}
 use Rattle.cue_why.specs.Inner.Stacks.{LineRefuses, IsTrailOf, ahead_of, IsStack, Suffice, source_part}
 use Rattle.cue_why.specs.Inner.Trails.{TrailRefuses, AreMet}

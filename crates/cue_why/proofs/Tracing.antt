@@ -12,7 +12,6 @@ use Rattle.cue_row.specs.Steps.{step_of}
 use Rattle.cue_row.specs.declared.parts.RowParts.{RowParts as Row}
 use Rattle.cue_row.specs.declared.step.Step.{Step as Code}
 use Rattle.cue_table.specs.Tree.{Tree}
-
 use Rattle.cue_why.specs.Inner.Parts.{AreParts, IsBelow, IsIn, Holds}
 use Rattle.cue_why.specs.Inner.Stacks.{IsTrailOf, LineRefuses, source_part}
 use Rattle.cue_why.specs.Inner.Trails.{IsTrail}
