@@ -1,14 +1,13 @@
 -- Open nodes as the program keeps them, and what becomes of them where a row comes.
 use Rattle.std.proofs.Common.{◌≡◌, ◌+◌, ◌<◌, ◌≤◌, max, ℕ, zero, suc, List, [], ◌∷◌, ◌++◌, append_assoc, map, length, take, drop, get_or, Option, Some, None, Result, Ok, Err, IfOk, refl, sym, ap, subst, ◌∙◌, inl, inr, ⊎_elim, drop_of_length-le, arith}
 use Rattle.std.specs.Bool.{◌==◌}
-use Rattle.std.specs.Prelude.{Bool, Box, ◌⊎◌, false, is_some, slice_set, true, unwrap_or}
+use Rattle.std.specs.Prelude.{Bool, Box, ◌⊎◌, false, is_some, slice_set, true}
 use Rattle.std.specs.Option.{option_map}
 use Rattle.std.specs.List.{AllByRecursion}
 use Rattle.std.specs.Global.{Global}
 use Rattle.std.specs.declared.cmp.Ordering.{Ordering}
 use Rattle.std.specs.declared.cmp.Ordering.TheVariants.{Less, Equal, Greater}
 use Rattle.std.proofs.Math.Seq.{take_all}
-use Rattle.std.proofs.lemmas.Option.{none-some}
 use Rattle.std.proofs.lemmas.List.{append-nil, length-append, length-map, length-take, map-append}
 use Rattle.cue_lattice.specs.Limits.{step_limit}
 use Rattle.cue_lattice.specs.Path.{Step}
@@ -16,8 +15,7 @@ use Rattle.cue_row.specs.Steps.{step_of}
 use Rattle.cue_table.specs.Depth.{tree_depth}
 use Rattle.cue_table.specs.Form.{AreBranches, IsTaken, IsTree}
 use Rattle.cue_table.specs.Inner.Child.{Child}
-use Rattle.cue_table.specs.Inner.Drafts.{opened_along, staying, staying_by, unless_refused, Becomes, GoesOn, LeadsOn}
-use Rattle.cue_table.specs.RowList.{Appends, BeginsNoTable}
+use Rattle.cue_table.specs.Inner.Drafts.{opened_along, staying, staying_by, Becomes, GoesOn, LeadsOn}
 use Rattle.cue_table.specs.Inner.Form.{Rise}
 use Rattle.cue_table.specs.Inner.Join.{join}
 use Rattle.cue_table.specs.Inner.Opened.{closed, hung, IsDraft, IsOpen}
@@ -485,34 +483,6 @@ no_slots f (x ∷ xs) ys is_none e h k = absurd (grind (arith, h, k))
 pub some_slots : {X Y : Type 0} (f : X → Y) (xs : List X) (ys : List Y) (is_none : Bool) → map f xs ≡ ys → is_none ≡ (length xs == 0) → is_none ≡ false → ys ≡ [] → ⊥
 some_slots f [] ys is_none e h k l = absurd cc
 some_slots f (x ∷ xs) ys is_none e h k l = absurd cc
-
--- what a draft has that was not refused
-pub not_refused : {R : Type 0} (refused : Bool) (rows : List (Place × R)) → refused ≡ false → unless_refused refused rows ≡ Some rows
-not_refused refused rows is = ap (λ b. unless_refused b rows) is
-
-pub same_rows : {R : Type 0} (rows other : List (Place × R)) → Some rows ≡ Some other → rows ≡ other
-same_rows rows other e = ap (λ o. unwrap_or o rows) e
-
--- and one that was refused
-pub was_refused : {R : Type 0} (refused : Bool) (rows : List (Place × R)) → refused ≡ true → (other : List (Place × R)) → Some other ≡ unless_refused refused rows → ⊥
-was_refused refused rows is other e = none-some other (sym (e ∙ ap (λ b. unless_refused b rows) is))
-
--- the draft goes on, is refused, or was refused before
-module _ {R Q : Type 0} (refuses : R → Q → Type 0) (is_value : R → Type 0) (refused : Bool) (rows : List (Place × R)) (old : Option (List (Place × R))) (place : Place) (row : R) (is : unless_refused refused rows ≡ old) where
-  pub draft_goes_on : (more : List (Place × R)) → refused ≡ false → more ≡ rows ++ (place, row) ∷ [] → Appends refuses is_value old place row (unless_refused refused more) true
-  draft_goes_on more goes e =
-      subst (λ o. Appends refuses is_value o place row (unless_refused refused more) true) is
-      (subst (λ b. Appends refuses is_value (unless_refused b rows) place row (unless_refused b more) true) (sym goes) (ap Some e))
-
-  pub draft_is_refused : (new : Option (List (Place × R))) → refused ≡ false → new ≡ None → BeginsNoTable refuses is_value (rows ++ (place, row) ∷ []) → Appends refuses is_value old place row new false
-  draft_is_refused new goes gone begins =
-      subst (λ o. Appends refuses is_value o place row new false) is
-      (subst (λ b. Appends refuses is_value (unless_refused b rows) place row new false) (sym goes) (gone, begins))
-
-  pub draft_stays_refused : refused ≡ true → Appends refuses is_value old place row old false
-  draft_stays_refused was =
-      subst (λ o. Appends refuses is_value o place row o false) is
-      (subst (λ b. Appends refuses is_value (unless_refused b rows) place row (unless_refused b rows) false) (sym was) refl)
 
 -- no row, as at the beginning
 pub none_drafted : {R : Type 0} (P : R → Type 0) (above : List (Tree R × Slot)) (last : Tree R) → above ≡ [] → last ≡ empty → IsDraft P above last × (rows_of (closed above last) ≡ [])

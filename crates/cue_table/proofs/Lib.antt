@@ -11,6 +11,7 @@ mod Merging
 mod MetBranches
 mod Nearing
 mod Owned
+mod RefusedDrafts
 mod Resting
 mod Rising
 mod Settling

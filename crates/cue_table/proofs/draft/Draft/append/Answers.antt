@@ -3,7 +3,8 @@ use Rattle.cue_table.specs.Form.{IsKept}
 use Rattle.cue_table.specs.Inner.Drafts.{GoesOn}
 use Rattle.cue_table.specs.Inner.Opened.{closed}
 use Rattle.cue_table.specs.Slots.{rows_of}
-use Rattle.cue_table.proofs.Drafting.{draft_goes_on, draft_is_refused, draft_stays_refused, none_drafted}
+use Rattle.cue_table.proofs.Drafting.{none_drafted}
+use Rattle.cue_table.proofs.RefusedDrafts.{draft_goes_on, draft_is_refused, draft_stays_refused}
 use Rattle.cue_table.proofs.draft.Draft.append.Goals as goal
 
 pub returns-then-self-clause-appends : goal.returns-then-self-clause-appends

@@ -6,7 +6,7 @@ use Rattle.cue_table.specs.Inner.Drafts.{Closes}
 use Rattle.cue_table.specs.Slots.{rows_of}
 use Rattle.cue_table.specs.Inner.Opened.{closed}
 use Rattle.cue_table.proofs.Beyond.{unfinished}
-use Rattle.cue_table.proofs.Drafting.{not_refused, same_rows, was_refused}
+use Rattle.cue_table.proofs.RefusedDrafts.{not_refused, same_rows, was_refused}
 use Rattle.cue_table.proofs.draft.Draft.finish.Goals as goal
 
 pub returns-then-is_refused-clause-none : goal.returns-then-is_refused-clause-none
