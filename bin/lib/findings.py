@@ -137,33 +137,34 @@ def slips_of(inputs):
     return slips
 
 
+def admitted(inputs, report):
+    """The inputs that are not refused, the status and the lines of their report, and the first fault of each refused one, with its
+    name. `report` runs the program on inputs: its status, its output and its faults."""
+    faults = []
+    while True:
+        status, out, complaints = report(inputs) if inputs else (0, b"", b"")
+        refused = REFUSED.search(out) if status == 1 else None
+        if status in (0, 2, 3):
+            return inputs, status, out.decode("utf-8", "replace").split("\n")[:-1], faults
+        if refused is None or refused[4] is None:
+            stop("cuestore check", said(out, complaints, [name for name, _ in inputs]), status)
+        at = int(refused[4]) - 1
+        name, data = inputs[at]
+        faults.append((Fault(int(refused[1]), refused[2].decode(), int(refused[3]), data), name))
+        inputs = inputs[:at] + inputs[at + 1:]
+
+
 class Findings:
     """What the report of files finds."""
 
     def __init__(self, files):
-        self.files, self.refused = files, []
-        inputs = [(name, read(name)) for name in files]
-        status, lines, inputs = self.report(inputs)
-        told = [(line, causes_of(line, inputs)) for line in lines]
-        self.groups = group_lines(told)
+        self.files = files
+        inputs, status, lines, first = admitted([(name, read(name)) for name in files],
+                                                lambda given: run(["report", "--", *(name for name, _ in given)]))
+        self.refused = [(fault, name) for one, name in first for fault in faults_of(one.data, one)]
+        self.groups = group_lines([(line, causes_of(line, inputs)) for line in lines])
         self.slips = slips_of(inputs)
         self.status = 1 if self.refused else status
-
-    def report(self, inputs):
-        """The report of the inputs that are not refused: its status, its lines, and these inputs."""
-        while True:
-            names = [name for name, _ in inputs]
-            status, out, faults = run(["report", "--", *names]) if names else (0, b"", b"")
-            refused = REFUSED.search(out) if status == 1 else None
-            if status in (0, 2, 3):
-                return status, out.decode("utf-8", "replace").split("\n")[:-1], inputs
-            if refused is None or refused[4] is None:
-                stop("cuestore check", said(out, faults, names), status)
-            at = int(refused[4]) - 1
-            name, data = inputs[at]
-            first = Fault(int(refused[1]), refused[2].decode(), int(refused[3]), data)
-            self.refused += [(fault, name) for fault in faults_of(data, first)]
-            inputs = inputs[:at] + inputs[at + 1:]
 
     def total(self, kind):
         return sum(len(group.paths) for group in self.groups if group.kind == kind)
