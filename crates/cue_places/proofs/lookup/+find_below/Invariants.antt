@@ -1,5 +1,0 @@
-use Rattle.std.proofs.Common.{length}
-use Rattle.cue_places.proofs.lookup.+find_below.Given as goal
-
-abbrev pub decreases-find_below : goal.decreases-find_below
-decreases-find_below l = length l.steps.now
