@@ -1,7 +1,7 @@
 -- What lies where, and what is read of a name; and what becomes of the files when bytes are put at
 -- a name.
-use Rattle.std.specs.Prelude.{◌≡◌, ◌≢◌, ℕ, List, Option, Some, None, Bool, false}
-use Rattle.std.specs.Prelude.{IfSome, map}
+use Rattle.std.specs.Prelude.{◌≡◌, ◌≢◌, ◌<◌, ◌^◌, ℕ, List, Option, Some, None, Bool, false}
+use Rattle.std.specs.Prelude.{IfSome, length, map}
 use Rattle.std.specs.Borrow.{Bor}
 
 -- A name leads to a place, which is another one where the name is a link's. At a place lies a
@@ -24,6 +24,10 @@ texts words = map (λ word. word.now) words
 -- these are all the bytes, where they are known
 abbrev pub AreAll : Option (List ℕ) → List ℕ → Type 0
 AreAll known bytes = IfSome known (λ all. bytes ≡ all)
+
+-- these are all the bytes, where they are known, and no more than a memory can hold
+abbrev pub IsWhole : Option (List ℕ) → List ℕ → Type 0
+IsWhole known bytes = AreAll known bytes × (length bytes < 2 ^ 64)
 
 -- an opened file has the bytes that lie under its name still to give
 abbrev pub IsOpened : Option Holdings → List ℕ → Option (List ℕ) → Type 0

@@ -1,4 +1,5 @@
 pub mod Calls
+pub mod Contents
 pub mod Effects
 pub mod Files
 pub mod Inputs

@@ -1,15 +1,15 @@
 //! New files that are to take the place of others.
 ghost use Rattle.std.specs.Prelude.{◌⊎◌, ℕ, IfOk, OnOk, OnErr, IfErr, string_bytes};
-ghost use Rattle.cue_replica.specs.Language.{language};
+ghost use Rattle.cue_program.specs.Contents.{bytes_of};
 ghost use Rattle.cue_program.specs.Calls.{Creates, Fills, FillsAndMoves, TakesMode, Tries};
 ghost use Rattle.cue_program.specs.Stopped.{OnlyTouches, StopsFilling};
 ghost use Rattle.cue_program.specs.Stops.{IsDevice, IsMemory};
 
+use crate::contents::Contents;
 use crate::shelf::{Shelf, Uncreated};
-use crate::state_file::write_state;
+use crate::state_file::write_contents;
 use crate::stop::Stop;
 use cue_device::Fault;
-use cue_replica::Replica;
 use std::alloc::Global;
 
 /// How many names are tried for the file that is written first.
@@ -47,36 +47,36 @@ pub fn fill_and_move<S: Shelf>(
     draft: &str,
     place: &str,
     is_file: bool,
-    site: &Replica,
+    contents: &Contents<'_>,
 ) -> Result<(), Stop>
     ensures moved { OnOk result (FillsAndMoves S.makes draft.now place.now is_file
-        (language.written site.now) file shelf.old shelf.new) }
+        (bytes_of contents.now) file shelf.old shelf.new) }
     ensures stopped { OnErr result
         (StopsFilling S.makes draft.now place.now file shelf.old shelf.new) }
     ensures fault { IfErr result (λ stop. IsDevice stop ⊎ IsMemory stop) }
 {
-    fill(shelf, alloc, file, place, is_file, site)?;
+    fill(shelf, alloc, file, place, is_file, contents)?;
     shelf.rename(draft, place)?;
     Ok(())
 }
 
-/// Gives a new file the mode of the one that lies at a place, where one does, and the state bytes
-/// of a site, and has them reach the disk.
+/// Gives a new file the mode of the one that lies at a place, where one does, and its contents, and
+/// has them reach the disk.
 fn fill<S: Shelf>(
     shelf: &mut S,
     alloc: Global,
     mut file: S::Draft,
     place: &str,
     is_file: bool,
-    site: &Replica,
+    contents: &Contents<'_>,
 ) -> Result<(), Stop>
-    ensures filled { OnOk result (Fills S.makes place.now is_file (language.written site.now) file
+    ensures filled { OnOk result (Fills S.makes place.now is_file (bytes_of contents.now) file
         shelf.old shelf.new) }
     ensures touched { OnErr result (OnlyTouches S.makes place.now file shelf.old shelf.new) }
     ensures fault { IfErr result (λ stop. IsDevice stop ⊎ IsMemory stop) }
 {
     take_mode(shelf, &file, place, is_file)?;
-    write_state(shelf, alloc, &mut file, site)?;
+    write_contents(shelf, alloc, &mut file, contents)?;
     shelf.sync(&file)?;
     Ok(())
 }

@@ -4,6 +4,7 @@
 //! process it makes a request of each input.
 #![tactic(auto)]
 
+mod contents;
 mod disk;
 mod draft;
 mod gathered;
@@ -12,7 +13,7 @@ mod kept;
 mod law;
 mod outlet;
 mod parts;
-mod put;
+mod putting;
 mod request;
 mod run;
 mod shelf;
@@ -23,6 +24,7 @@ mod taking;
 mod telling;
 mod writing;
 
+pub use contents::Contents;
 pub use cue_answer::{Answer, Question, Status, answer_to, printed};
 pub use cue_device::Fault;
 pub use cue_replica::{Kind, Memory, Refusal, Replica, StateReader};
@@ -30,11 +32,12 @@ pub use cue_wire::Request;
 pub use kept::{Enough, Input, Kept};
 pub use law::calls_put_the_bytes;
 pub use outlet::Outlet;
-pub use parts::first_part;
+pub use parts::{first_line, first_part};
+pub use putting::put;
 pub use request::requests_for;
-pub use run::{answer_for, merge_into, site_for};
+pub use run::{answer_for, merge_into, read_whole, site_for};
 pub use shelf::{Form, Shelf, Uncreated};
-pub use site::take_file;
+pub use site::{begins_a_state, take_file, text_of};
 pub use stop::Stop;
 pub use telling::{Untold, tell};
 pub use writing::tell_state;

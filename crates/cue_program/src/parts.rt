@@ -21,7 +21,7 @@ fn line_break(bytes: &[u8]) -> Option<usize>
 }
 
 /// The first line, with its line break, and what follows it.
-fn first_line(bytes: &[u8]) -> (&[u8], &[u8])
+pub fn first_line(bytes: &[u8]) -> (&[u8], &[u8])
     requires { 0 < length bytes.now }
     ensures some { 0 < length result.0.now }
     ensures whole { bytes.now ≡ result.0.now ++ result.1.now }

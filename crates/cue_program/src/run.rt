@@ -1,15 +1,16 @@
 ghost use Rattle.std.specs.Prelude.{◌≡◌, length, map, IfOk, IfErr, OnOk};
 ghost use Rattle.cue_program.specs.Stops.{IsFileFault};
-ghost use Rattle.cue_program.specs.Files.{known_at, texts};
+ghost use Rattle.cue_program.specs.Files.{known_at, texts, IsWhole};
 ghost use Rattle.cue_program.specs.Inputs.{Holds, files, inputs_of};
 ghost use Rattle.cue_program.specs.Runs.{IsAnswerOn, IsMergeOn, IsMergeStopOn, IsStopOn};
 ghost use Rattle.cue_program.specs.Stops.{piece_size, IsUnreadable};
 ghost use Rattle.cue_program.specs.inner.Reading.{IsAllRead};
 
+use crate::contents::Contents;
 use crate::gathered::Gathered;
 use crate::input::{read_all, room};
 use crate::kept::{Enough, Input, Kept};
-use crate::put::put;
+use crate::putting::put;
 use crate::shelf::Shelf;
 use crate::site::site_of;
 use crate::stop::Stop;
@@ -61,7 +62,7 @@ pub fn merge_into<H: AllocGlobal + Shelf, R: Read>(
 {
     let site = site_for(&*rt, files, input)?;
     let alloc = rt.alloc();
-    put(rt, alloc, name, &site)
+    put(rt, alloc, name, &Contents::State(&site))
 }
 
 /// One new site that has taken all inputs in their order: the files of these names, each read and
@@ -112,6 +113,20 @@ fn site_of_files<H: AllocGlobal + Shelf>(rt: &H, names: &[&str]) -> Result<Repli
         gathered.take_file(file, number)?;
     }
     Ok(gathered.finish()?)
+}
+
+/// All bytes of the file of this name.
+///
+/// # Errors
+///
+/// `Device`, `TurnsUsed` and `Memory`.
+pub fn read_whole<H: AllocGlobal + Shelf>(rt: &H, name: &str) -> Result<Vec<u8>, Stop>
+    ensures whole { IfOk result (λ bytes.
+        IsWhole (known_at (H.held rt.now) name.now) bytes.items) }
+    ensures unread { IfErr result (IsUnreadable (known_at (H.held rt.now) name.now)) }
+{
+    let mut piece = room(rt.alloc())?;
+    read_file(rt, name, &mut piece)
 }
 
 /// What is kept of the file of this name that is read to its end, by reads into this room.

@@ -1,16 +1,16 @@
 use Rattle.cue_program.proofs.Calls.{not_synced, on_err, taken_and_touched, taken_then}
 use Rattle.cue_program.proofs.draft.fill.Goals as goal
 
-pub returns-in_err-write_state-clause-touched : goal.returns-in_err-write_state-clause-touched
-returns-in_err-write_state-clause-touched g c =
+pub returns-in_err-write_contents-clause-touched : goal.returns-in_err-write_contents-clause-touched
+returns-in_err-write_contents-clause-touched g c =
     let place = c.args.place.now in
-    on_err c.from_residual-in_err-write_state.result (taken_and_touched g.S.Shelf.makes place c.args.is_file c.args.file c.write_state.new.file
-    c.args.shelf.now c.take_mode.new.shelf c.write_state.new.shelf c.in_ok-take_mode.ensures.taken (c.write_state.ensures.touched place))
+    on_err c.from_residual-in_err-write_contents.result (taken_and_touched g.S.Shelf.makes place c.args.is_file c.args.file c.write_contents.new.file
+    c.args.shelf.now c.take_mode.new.shelf c.write_contents.new.shelf c.in_ok-take_mode.ensures.taken (c.write_contents.ensures.touched place))
 
 pub returns-in_err-sync-clause-touched : goal.returns-in_err-sync-clause-touched
 returns-in_err-sync-clause-touched g c =
     let makes = g.S.Shelf.makes in
     let place = c.args.place.now in
-    on_err c.from_residual-in_err-sync.result (not_synced makes place c.args.file c.write_state.new.file c.args.shelf.now c.write_state.new.shelf c.sync.new.self
-    (taken_then makes place c.args.is_file c.args.file c.write_state.new.file
-    c.args.shelf.now c.take_mode.new.shelf c.write_state.new.shelf c.in_ok-take_mode.ensures.taken (c.write_state.ensures.touched place)) c.in_err-sync.ensures)
+    on_err c.from_residual-in_err-sync.result (not_synced makes place c.args.file c.write_contents.new.file c.args.shelf.now c.write_contents.new.shelf c.sync.new.self
+    (taken_then makes place c.args.is_file c.args.file c.write_contents.new.file
+    c.args.shelf.now c.take_mode.new.shelf c.write_contents.new.shelf c.in_ok-take_mode.ensures.taken (c.write_contents.ensures.touched place)) c.in_err-sync.ensures)

@@ -1,18 +1,18 @@
 ghost use Rattle.std.specs.Prelude.{◌⊎◌, OnOk, OnErr, IfErr};
-ghost use Rattle.cue_replica.specs.Language.{language};
+ghost use Rattle.cue_program.specs.Contents.{bytes_of};
 ghost use Rattle.cue_program.specs.Calls.{Puts, PutsAt, PutsBehind, Replaces, Overwrites};
 ghost use Rattle.cue_program.specs.Stopped.{StopsPutting, StopsAt, StopsBehind};
 ghost use Rattle.cue_program.specs.Stopped.{StopsReplacing, StopsOverwriting};
 ghost use Rattle.cue_program.specs.Stops.{IsDevice, IsMemory};
 
+use crate::contents::Contents;
 use crate::draft::{create_beside, fill_and_move};
 use crate::shelf::{Form, Shelf};
-use crate::state_file::write_state;
+use crate::state_file::write_contents;
 use crate::stop::Stop;
-use cue_replica::Replica;
 use std::alloc::Global;
 
-/// Puts the state bytes of a site at a name, so that at no moment less than a whole file stands
+/// Puts contents at a name, so that at no moment less than a whole file stands
 /// there: they go to a new file beside it, reach the disk, and take its place in one step. The new
 /// file has the mode of the old one. What a link leads to is replaced, and not the link. Something
 /// special, as a device or a pipe, is written in place.
@@ -21,69 +21,74 @@ use std::alloc::Global;
 ///
 /// `Device` and `Memory`. What lay there, a file or nothing, lies there then: only the new file was
 /// touched, and was taken away.
-pub fn put<S: Shelf>(shelf: &mut S, alloc: Global, name: &str, site: &Replica) -> Result<(), Stop>
-    ensures put { OnOk result (Puts S.makes name.now (language.written site.now)
+pub fn put<S: Shelf>(
+    shelf: &mut S,
+    alloc: Global,
+    name: &str,
+    contents: &Contents<'_>,
+) -> Result<(), Stop>
+    ensures put { OnOk result (Puts S.makes name.now (bytes_of contents.now)
         shelf.old shelf.new) }
     ensures stopped { OnErr result (StopsPutting S.makes name.now shelf.old shelf.new) }
     ensures fault { IfErr result (λ stop. IsDevice stop ⊎ IsMemory stop) }
 {
     match shelf.look_at(name)? {
-        Form::Nothing => replace(shelf, alloc, name, false, site),
-        Form::File => replace(shelf, alloc, name, true, site),
-        Form::Link => put_behind(shelf, alloc, name, site),
-        Form::Special => overwrite(shelf, alloc, name, site),
+        Form::Nothing => replace(shelf, alloc, name, false, contents),
+        Form::File => replace(shelf, alloc, name, true, contents),
+        Form::Link => put_behind(shelf, alloc, name, contents),
+        Form::Special => overwrite(shelf, alloc, name, contents),
     }
 }
 
-/// Puts the state bytes of a site behind the link of this name.
+/// Puts contents behind the link of this name.
 fn put_behind<S: Shelf>(
     shelf: &mut S,
     alloc: Global,
     name: &str,
-    site: &Replica,
+    contents: &Contents<'_>,
 ) -> Result<(), Stop>
-    ensures put { OnOk result (PutsAt S.makes name.now Form.Link (language.written site.now)
+    ensures put { OnOk result (PutsAt S.makes name.now Form.Link (bytes_of contents.now)
         shelf.old shelf.new) }
     ensures stopped { OnErr result (StopsAt S.makes name.now Form.Link shelf.old shelf.new) }
     ensures fault { IfErr result (λ stop. IsDevice stop ⊎ IsMemory stop) }
 {
     match shelf.look_behind(name)? {
-        Form::File => put_at_end(shelf, alloc, name, site),
-        _ => overwrite(shelf, alloc, name, site),
+        Form::File => put_at_end(shelf, alloc, name, contents),
+        _ => overwrite(shelf, alloc, name, contents),
     }
 }
 
-/// Puts the state bytes of a site in the place of the file that a link leads to.
+/// Puts contents in the place of the file that a link leads to.
 fn put_at_end<S: Shelf>(
     shelf: &mut S,
     alloc: Global,
     name: &str,
-    site: &Replica,
+    contents: &Contents<'_>,
 ) -> Result<(), Stop>
-    ensures put { OnOk result (PutsBehind S.makes name.now Form.File (language.written site.now)
+    ensures put { OnOk result (PutsBehind S.makes name.now Form.File (bytes_of contents.now)
         shelf.old shelf.new) }
     ensures stopped { OnErr result (StopsBehind S.makes name.now Form.File shelf.old shelf.new) }
     ensures fault { IfErr result (λ stop. IsDevice stop ⊎ IsMemory stop) }
 {
     let place = shelf.follow(alloc, name)?;
-    replace(shelf, alloc, place.as_str(), true, site)
+    replace(shelf, alloc, place.as_str(), true, contents)
 }
 
-/// Puts the state bytes of a site at a place where a file lies, or nothing.
+/// Puts contents at a place where a file lies, or nothing.
 fn replace<S: Shelf>(
     shelf: &mut S,
     alloc: Global,
     place: &str,
     is_file: bool,
-    site: &Replica,
+    contents: &Contents<'_>,
 ) -> Result<(), Stop>
-    ensures put { OnOk result (Replaces S.makes place.now is_file (language.written site.now)
+    ensures put { OnOk result (Replaces S.makes place.now is_file (bytes_of contents.now)
         shelf.old shelf.new) }
     ensures stopped { OnErr result (StopsReplacing S.makes place.now shelf.old shelf.new) }
     ensures fault { IfErr result (λ stop. IsDevice stop ⊎ IsMemory stop) }
 {
     let (draft, file) = create_beside(shelf, alloc, place)?;
-    match fill_and_move(shelf, alloc, file, draft.as_str(), place, is_file, site) {
+    match fill_and_move(shelf, alloc, file, draft.as_str(), place, is_file, contents) {
         Ok(()) => Ok(()),
         Err(stop) => {
             // Where the new file can't be taken away, it stays beside the old one.
@@ -93,13 +98,18 @@ fn replace<S: Shelf>(
     }
 }
 
-/// Writes the state bytes of a site to what stands under a name.
-fn overwrite<S: Shelf>(shelf: &mut S, alloc: Global, name: &str, site: &Replica) -> Result<(), Stop>
-    ensures put { OnOk result (Overwrites S.makes name.now (language.written site.now)
+/// Writes contents to what stands under a name.
+fn overwrite<S: Shelf>(
+    shelf: &mut S,
+    alloc: Global,
+    name: &str,
+    contents: &Contents<'_>,
+) -> Result<(), Stop>
+    ensures put { OnOk result (Overwrites S.makes name.now (bytes_of contents.now)
         shelf.old shelf.new) }
     ensures stopped { OnErr result (StopsOverwriting S.makes name.now shelf.old shelf.new) }
     ensures fault { IfErr result (λ stop. IsDevice stop ⊎ IsMemory stop) }
 {
     let mut file = shelf.open_to_write(name)?;
-    write_state(shelf, alloc, &mut file, site)
+    write_contents(shelf, alloc, &mut file, contents)
 }
