@@ -1,0 +1,5 @@
+pub mod Inner
+pub mod Laws
+pub mod Refusals
+pub mod Sites
+pub mod World
