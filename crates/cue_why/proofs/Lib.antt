@@ -9,6 +9,8 @@ pub mod Parts
 pub mod Pass
 pub mod Reports
 pub mod RowFacts
+pub mod Saying
+pub mod Showing
 pub mod Stacks
 pub mod Tracing
 pub mod Trails

@@ -30,7 +30,7 @@ cut_suc (x ∷ p) (suc i) s h e =
     let more = cut_suc p i s (omega arith) e in
     (ap (λ q. step_of x ∷ q) more.0, more.1)
 
-cut_at : (p : List Code) (i : ℕ) (s : Code) → i < length p → s ≡ get_or p i s
+pub cut_at : (p : List Code) (i : ℕ) (s : Code) → i < length p → s ≡ get_or p i s
     → (take (i + 1) (map step_of p) ≡ take i (map step_of p) ++ step_of s ∷ []) × (drop i (map step_of p) ≡ step_of s ∷ drop (i + 1) (map step_of p))
 cut_at p i s h e =
     let P : ℕ → Type 0 = λ n. (take n (map step_of p) ≡ take i (map step_of p) ++ step_of s ∷ []) × (drop i (map step_of p) ≡ step_of s ∷ drop n (map step_of p)) in

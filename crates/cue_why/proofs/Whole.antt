@@ -1,5 +1,7 @@
 -- The sources that are left of a pass make the finding of the view, and are a least list.
-use Rattle.std.proofs.Common.{◌≡◌, ◌↔◌, inl, inr, ⊎_elim, List, [], ◌∷◌, map, sym, subst, append-nil}
+use Rattle.std.proofs.Common.{◌≡◌, ◌↔◌, inl, inr, ⊎_elim, Bool, true, false, List, [], ◌∷◌, map, refl, sym, subst, ◌∙◌, append-nil}
+use Rattle.std.specs.Prelude.{IsTrue}
+use Rattle.std.proofs.lemmas.Bool.{false≢true}
 use Rattle.cue_lattice.specs.OneOf.{OneOf}
 use Rattle.cue_lattice.specs.Path.{Path}
 use Rattle.cue_lattice.specs.Question.{Question, Refusals, level_at_most, usual}
@@ -16,7 +18,7 @@ use Rattle.cue_policies.specs.declared.kind.LayerKind.{LayerKind}
 use Rattle.cue_table.specs.Tree.{Tree}
 use Rattle.cue_why.specs.Finding.{IsClear}
 use Rattle.cue_why.specs.Least.{IsLeft, IsLeast}
-use Rattle.cue_why.specs.Reported.{IsReported}
+use Rattle.cue_why.specs.Reported.{IsReported, IsOfLabel}
 use Rattle.cue_why.specs.Sources.{SourcesRefuse, SourcesMake}
 use Rattle.cue_why.specs.Inner.Findings.{IsFinding, IsReportedAs}
 use Rattle.cue_why.specs.Inner.Stacks.{LineRefuses, IsTrailOf, Suffice, source_part}
@@ -209,3 +211,15 @@ left_make all left path finding is h = left_as (Suffice finding path) (SourcesMa
 
 pub least_make : (all left : List Source) (path : Path) (finding : Finding) → IsFinding (SourcesRefuse all) path finding → IsLeft (SourcesMake all path) [] all left → IsLeast (SourcesMake all path) left
 least_make all left path finding is h = left_is_least (SourcesMake all path) (more_make all path) all left (makes_own (SourcesRefuse all) path is.demanded) h
+
+-- ---- whether the label alone is reported
+not_true : (b : Bool) → ¬ IsTrue b → b ≡ false
+not_true true non = absurd (non refl)
+not_true false non = refl
+
+pub label_is : (view : Refusals) (path : Path) (finding : Finding) (found : Bool) → IsFinding view path finding → IsReported view path → IsTrue found ↔ ((finding.no_value ≡ false) × IsTrue finding.not_allowed)
+    → IsTrue found ↔ IsOfLabel view path
+label_is view path finding found is reported e = (
+  λ t. let both = e.0 t in (reported, is.not_allowed.0 both.1, λ h. false≢true (sym both.0 ∙ is.no_value.1 h)),
+  λ h. e.1 (not_true finding.no_value (λ t. h.2 (is.no_value.0 t)), is.not_allowed.1 h.1),
+)

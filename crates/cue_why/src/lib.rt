@@ -8,12 +8,16 @@ mod least;
 mod making;
 mod met;
 mod part;
+mod shown;
 mod source;
 mod trail;
 
 pub use cue_lattice::{Memory, Text};
 pub use cue_policies::LayerKind;
+pub use cue_report::Place;
 pub use cue_row::{Row, Step};
-pub use cue_table::Table;
-pub use making::makers;
+pub use cue_table::{Branch, Table};
+pub use making::{LeastMakers, makers};
+pub use part::WrittenPart;
+pub use shown::shown_parts;
 pub use source::Source;

@@ -13,7 +13,7 @@ use std::alloc::Global;
 
 /// What a source has at a path, as it wrote that.
 #[derive(Drop)]
-pub(crate) struct WrittenPart<'a> {
+pub struct WrittenPart<'a> {
     pub written: Place,
     pub branch: Branch<'a, Row>,
 }

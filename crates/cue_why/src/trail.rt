@@ -74,7 +74,12 @@ fn add_row(alloc: Global, row: &mut Row, kind: LayerKind, part: &WrittenPart) ->
 }
 
 /// A row at a path as it counts in the view: where the path ends in a pattern, of no level.
-fn held_row(alloc: Global, kind: LayerKind, path: &[Step], row: &Row) -> Result<Row, Memory>
+pub(crate) fn held_row(
+    alloc: Global,
+    kind: LayerKind,
+    path: &[Step],
+    row: &Row,
+) -> Result<Row, Memory>
     ensures { IfOk result (λ held. IsHeldRow kind (map step_of path.now) row.now held) }
 {
     let row = row.copy(alloc)?;
