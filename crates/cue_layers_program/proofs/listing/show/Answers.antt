@@ -1,0 +1,7 @@
+use Rattle.std.proofs.Common.{inl, inr}
+use Rattle.cue_layers_program.proofs.Results.{err_on}
+use Rattle.cue_layers_program.proofs.listing.show.Goals as goal
+
+pub returns-in_err-all-clause-stop : goal.returns-in_err-all-clause-stop
+returns-in_err-all-clause-stop g c =
+    err_on c.from_residual-in_err-all.result c.in_err-all.field-0.0 _ c.from_residual-in_err-all.ensures.1 (inr (inl c.in_err-all.ensures.stop))
