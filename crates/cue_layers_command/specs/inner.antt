@@ -1,0 +1,3 @@
+-- What private clauses alone cite.
+pub mod Lines
+pub mod Replies

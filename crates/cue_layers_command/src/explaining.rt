@@ -1,0 +1,89 @@
+//! What is meant where what was asked for is refused: a line beside that of the refusal.
+ghost use Rattle.std.specs.Prelude.{IfOk, string_bytes};
+ghost use Rattle.cue_layers_command.specs.Faults.{IsMeaning};
+ghost use Rattle.cue_layers_command.specs.inner.Lines.{IsLine};
+
+use crate::command::Command;
+use crate::fault::{Fault, RunRefusal};
+use cue_layers::LayersRefusal;
+use itoa::Buffer;
+use std::alloc::{AllocError, Global};
+
+/// The line that says what a command asked for that was refused; nothing where an input is refused,
+/// or the run itself.
+pub fn explanation(alloc: Global, command: &Command, fault: &Fault) -> Result<String, AllocError>
+    ensures { IfOk result (λ text. IsMeaning fault.now (string_bytes text)) }
+{
+    match fault {
+        Fault::Refused(RunRefusal::Request(why)) => line_of(alloc, command, why),
+        _ => Ok(String::new(alloc)),
+    }
+}
+
+/// The line that says what is meant by a refusal of what a command asked for.
+fn line_of(alloc: Global, command: &Command, why: &LayersRefusal) -> Result<String, AllocError>
+    ensures { IfOk result (λ text. IsLine (string_bytes text)) }
+{
+    match why {
+        LayersRefusal::ViewTooLarge => {
+            line(alloc, reason(why), Buffer::new().format(limit_of(command)))
+        }
+        LayersRefusal::NotLayers | LayersRefusal::Store(_) => {
+            line(alloc, reason(why), map_of(command))
+        }
+        _ => line(alloc, reason(why), name_of(command)),
+    }
+}
+
+/// Why what was asked for is refused.
+fn reason(why: &LayersRefusal) -> &'static str {
+    match why {
+        LayersRefusal::BadName(_) => "no name of a layer or a policy: ",
+        LayersRefusal::NotWellFormed =>
+            "a pattern below an element of a list, or in a closed set of labels: policy ",
+        LayersRefusal::RevisionsUsed => "no revision is left: ",
+        LayersRefusal::ViewTooLarge => "the view has more rows than ",
+        LayersRefusal::NotLayers => "no map of layers: ",
+        _ => "a map of another version: ",
+    }
+}
+
+/// The name that a command is about.
+fn name_of<'a>(command: &'a Command) -> &'a str {
+    match command {
+        Command::Put { name, .. }
+        | Command::Remove { name, .. }
+        | Command::Attempt { name, .. }
+        | Command::Show { name, .. } => name,
+        _ => "",
+    }
+}
+
+/// The file of the map that a command is about.
+fn map_of<'a>(command: &'a Command) -> &'a str {
+    match command {
+        Command::Put { map, .. } | Command::Remove { map, .. } | Command::Attempt { map, .. } =>
+            map,
+        _ => "",
+    }
+}
+
+/// The most rows of a view, where a command has a limit.
+fn limit_of(command: &Command) -> u64 {
+    match command {
+        Command::Put { limit, .. } | Command::Attempt { limit, .. } | Command::Ask { limit, .. } =>
+            *limit,
+        _ => 0,
+    }
+}
+
+/// A line of two texts.
+fn line(alloc: Global, text: &str, end: &str) -> Result<String, AllocError>
+    ensures { IfOk result (λ line. IsLine (string_bytes line)) }
+{
+    let mut line = String::new(alloc);
+    line.push_str(text)?;
+    line.push_str(end)?;
+    line.push_str("\n")?;
+    Ok(line)
+}

@@ -1,0 +1,17 @@
+//! The arguments of the program: what they ask for, what is printed for them, and how a run ends.
+//! What is done with maps of layers is in `cue_layers_program`.
+#![tactic(auto)]
+
+mod acting;
+mod app;
+mod command;
+mod explaining;
+mod fault;
+mod placing;
+mod reply;
+mod replying;
+
+pub use acting::{act, report, run};
+pub use app::layers;
+pub use command::{Command, command_of, given_words, rows_in, unread};
+pub use fault::{Fault, LINE, RunRefusal, text_of};

@@ -1,0 +1,24 @@
+//! The program `cuelayers`: what operators run on configuration in layers.
+#![tactic(auto)]
+
+use cue_layers_command::run;
+use cue_program::Outlet;
+use std::io::BufWriter;
+use std::process::ExitCode;
+
+/// How many bytes of standard output are gathered before they are written.
+const ROOM: usize = 65536;
+
+fn main(mut rt: HostRuntime) -> ExitCode {
+    let mut input = rt.stdin();
+    let mut faults = Outlet::new(rt.stderr());
+    let status = match BufWriter::with_capacity(rt.alloc(), ROOM, rt.stdout()) {
+        Ok(out) => run(&mut rt, &mut input, &mut Outlet::new(out), &mut faults),
+        // Without memory for that room each piece is written at once.
+        Err(_) => {
+            let mut out = Outlet::new(rt.stdout());
+            run(&mut rt, &mut input, &mut out, &mut faults)
+        }
+    };
+    ExitCode::from(status)
+}
