@@ -13,7 +13,7 @@ import stat
 import subprocess
 import tempfile
 
-from sites import Fault, naming
+from sites import LAYERS, Fault, naming
 
 NAME = re.compile(r"[A-Za-z0-9_][A-Za-z0-9._-]*\Z")
 STATES, FRAGMENTS = ".state", ".fragments"
@@ -21,7 +21,7 @@ STATES, FRAGMENTS = ".state", ".fragments"
 
 class Carrier:
     """What every carrier has: the generation, limits, and what was passed over, to be told. An entry's name is a site's, or
-    a site's with `.fragments`."""
+    a site's with `.fragments` or `.layers`."""
 
     def __init__(self, at, generation, most, seconds):
         self.at, self.generation, self.most, self.seconds, self.passed = at, generation, most, seconds, []
@@ -98,13 +98,13 @@ def copied(source, target, most):
 
 def entry_of(file):
     """The entry that a file has, by its name; none, where it is another file."""
-    if file.endswith(FRAGMENTS):
+    if file.endswith((FRAGMENTS, LAYERS)):
         return file
     return file[:-len(STATES)] if file.endswith(STATES) else None
 
 
 def file_of(entry):
-    return entry if entry.endswith(FRAGMENTS) else entry + STATES
+    return entry if entry.endswith((FRAGMENTS, LAYERS)) else entry + STATES
 
 
 class Folder(Carrier):
@@ -179,7 +179,7 @@ class Remote(Folder):
 
     def listed(self):
         below = f"{self.generation}/" if self.generation else ""
-        rules = [f"--include=/{below}*{kind}" for kind in (STATES, FRAGMENTS)]
+        rules = [f"--include=/{below}*{kind}" for kind in (STATES, FRAGMENTS, LAYERS)]
         rules += [f"--include=/{below}"] if below else []
         try:
             lines = self.rsync("--list-only", f"{self.remote}/").decode(errors="replace").split("\n")

@@ -26,12 +26,17 @@ answer_help() {
   exit 0
 }
 
-# The program for a script that was called by this name: CUESTORE; what lies beside the name, beside the script itself
-# only where none is on the path, since a checkout's launcher stops while a source is newer than its program.
+# find_program SCRIPT [NAME]: the program of this name (cuestore) for a script that was called so: what CUESTORE or CUELAYERS
+# says; what lies beside SCRIPT, beside the script itself only where none is on the path, since a checkout's launcher stops
+# while a source is newer than its program.
 find_program() {
-  local found
-  if [ -n "${CUESTORE-}" ]; then echo "$CUESTORE"
-  elif [ -x "$(dirname "$1")/cuestore" ]; then echo "$(cd "$(dirname "$1")" && pwd)/cuestore"
-  elif found=$(command -v cuestore); then echo "$found"
-  else echo "$here/cuestore"; fi
+  local goal=${2:-cuestore} found
+  case $goal in
+    cuestore) found=${CUESTORE-} ;;
+    *) found=${CUELAYERS-} ;;
+  esac
+  if [ -n "$found" ]; then echo "$found"
+  elif [ -x "$(dirname "$1")/$goal" ]; then echo "$(cd "$(dirname "$1")" && pwd)/$goal"
+  elif found=$(command -v "$goal"); then echo "$found"
+  else echo "$here/$goal"; fi
 }

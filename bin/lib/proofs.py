@@ -10,7 +10,7 @@ from program import BIN
 TOP = os.path.dirname(BIN)
 KEPT = f"{TOP}/out/proved"
 # What is built from each goal, and where it lies.
-BUILT = {"cuestore": "crates/cuestore/out/cuestore", "cuestored": "crates/cuestored/out/cuestored",
+BUILT = {"cuestore": "crates/cuestore/out/cuestore", "cuelayers": "crates/cuelayers/out/cuelayers", "cuestored": "crates/cuestored/out/cuestored",
          "cue_embed": "crates/cue_embed/out/libcue_embed.a", "library": "embed/out"}
 
 

@@ -1,4 +1,5 @@
-"""A site's file: its lock, its generation, what is wrong with it, and how other inputs are merged into it."""
+"""A site's file, which is a state or a map of layers (`*.layers`): its lock, its generation, what is wrong with it, and how other
+inputs are merged into it."""
 import contextlib
 import fcntl
 import filecmp
@@ -8,10 +9,11 @@ import signal
 import subprocess
 import tempfile
 
-from program import CUESTORE, REFUSED
+from program import CUELAYERS, CUESTORE, REFUSED
 
 SECONDS = 300  # for a run of the program
 MOST_LINES = 1000  # of conflicts that are looked at: what a state says may have far more than it has bytes
+LAYERS, MAP = ".layers", b"\xfeLAY"  # how the name and the bytes of a map of layers end and begin
 # How a line of a conflict ends. The last one of a report that memory ran out for is cut, and ends otherwise.
 ENDS = (b" no value\n", b" label not allowed\n")
 
@@ -88,31 +90,51 @@ def check_generation(state, number):
             raise Fault(f"{state} is of generation {known} already: go on with --generation {known}", 1)
 
 
-def started(words, **streams):
-    """A process of the program, with no input, in a session of its own."""
+def is_map(state):
+    """Whether a site's file is a map of layers, by its name."""
+    return state.endswith(LAYERS)
+
+
+def started(state, words, **streams):
+    """A process of the program for such a site's file, with no input, in a session of its own."""
+    program = CUELAYERS if is_map(state) else CUESTORE
     try:
-        return subprocess.Popen([CUESTORE, *words], stdin=subprocess.DEVNULL, start_new_session=True, **streams)
+        return subprocess.Popen([program, *words], stdin=subprocess.DEVNULL, start_new_session=True, **streams)
     except OSError as error:
-        raise Fault(f"the program {CUESTORE} can't be run: {error.strerror}", 5) from error
+        raise Fault(f"the program {program} can't be run: {error.strerror}", 5) from error
 
 
-def written(inputs, path):
-    """Writes the state of inputs to a file: none; or what the program says in its place, as the match of a refusal."""
-    with open(path, "wb") as out, started(["state", "--", *inputs], stdout=out, stderr=subprocess.PIPE) as process:
+def written(state, inputs, path):
+    """Writes what inputs say together to a file, in the form of the site's file: none; or what the program says in its place, as
+    the match of a refusal."""
+    # A state goes to standard output. A map is written by its name, and standard output has a refusal alone.
+    words = ["merge", "--", path, *inputs] if is_map(state) else ["state", "--", *inputs]
+    said_to = f"{path}.said" if is_map(state) else path
+    try:
+        return ran(state, words, inputs, said_to)
+    finally:
+        for left in (said_to, f"{path}.lock") if is_map(state) else ():
+            with contextlib.suppress(FileNotFoundError):
+                os.unlink(left)
+
+
+def ran(state, words, inputs, path):
+    """Runs the program with its standard output to a file: none; or the match of the refusal there."""
+    with open(path, "wb") as out, started(state, words, stdout=out, stderr=subprocess.PIPE) as process:
         try:
             faults = process.communicate(timeout=SECONDS)[1].decode(errors="replace").strip()
         except subprocess.TimeoutExpired:
             os.killpg(process.pid, signal.SIGKILL)
             return REFUSED.match(b"refused 24 Memory\n")  # it takes more than anybody has
     if process.returncode not in (0, 1):
-        raise Fault(why_failed(inputs, path, faults or f"{CUESTORE} ended with {process.returncode}"), max(process.returncode, 4))
+        raise Fault(why_failed(inputs, path, faults or f"the program ended with {process.returncode}"), max(process.returncode, 4))
     if process.returncode == 0:
         return None
     with open(path, "rb") as file:
         file.seek(max(0, os.path.getsize(path) - 200))  # bytes of a state may stand before it, where memory ran out late
         refused = REFUSED.search(file.read())
     if not refused:
-        raise Fault(faults or f"{CUESTORE} gave no answer", 1)
+        raise Fault(faults or "the program gave no answer", 1)
     return refused
 
 
@@ -129,12 +151,14 @@ def is_there(state):
     """Whether there is a site's file, which begins as a state; a fault, where it does not."""
     try:
         with open(state, "rb") as file:
-            mark = file.read(1)
+            mark = file.read(len(MAP) if is_map(state) else 1)
     except FileNotFoundError:
         return False
     except OSError as error:
         raise Fault(f"{state} can't be read: {error.strerror}", 4) from error
-    if mark != b"\xfe":
+    if is_map(state) and mark != MAP:
+        raise Fault(f"{state} is no map of layers", 1)
+    if mark[:1] != b"\xfe":
         raise Fault(f"{state} is no state" + (", but maybe a fragment: cuestore-add SITE.state FILE" if mark else ": it is empty"), 1)
     return True
 
@@ -142,9 +166,9 @@ def is_there(state):
 def check(state):
     """Raises a fault, where the site's file is not there, or is no whole state."""
     if not is_there(state):
-        raise Fault(f"{state} is not there: cuestore-add makes it of fragments", 1)
+        raise Fault(f"{state} is not there: {'cuelayers put' if is_map(state) else 'cuestore-add'} makes it of fragments", 1)
     with tempfile.NamedTemporaryFile() as scratch:
-        refused = written([state], scratch.name)
+        refused = written(state, [state], scratch.name)
     if refused:
         raise own_fault(state, refused)
 
@@ -158,10 +182,10 @@ def said(refused):
     return refused[0].decode().strip()
 
 
-def conflicts_of(state):
-    """The conflicts of a state, as lines: the first ones, where there are very many, or memory runs out."""
+def conflicts_of(file, state):
+    """The conflicts of a file of the site's form, as lines: the first ones, where there are very many, or memory runs out."""
     found = set()
-    with started(["report", "--", state], stdout=subprocess.PIPE, stderr=subprocess.DEVNULL) as process:
+    with started(state, ["report", "--", file], stdout=subprocess.PIPE, stderr=subprocess.DEVNULL) as process:
         for line in process.stdout:
             # Conflicts come first.
             if not (line.startswith(b"conflict ") and line.endswith(ENDS)) or len(found) == MOST_LINES:
@@ -190,7 +214,7 @@ def merge_into(state, inputs, generation=None):
         stack.enter_context(naming(state))
         fresh = stack.enter_context(beside(target))
         while inputs and (refused := merge_to(state, [*known, *(path for _, path in inputs)], fresh)):
-            at = int(refused[4]) - len(known) - 1 if refused[4] else first_refused(known, inputs, fresh)
+            at = int(refused[4]) - len(known) - 1 if refused[4] else first_refused(state, known, inputs, fresh)
             if at == -1:
                 raise own_fault(state, refused)
             if at is None:
@@ -199,7 +223,7 @@ def merge_into(state, inputs, generation=None):
         merged.names = [name for name, _ in inputs]
         merged.is_new = bool(inputs) and not (known and filecmp.cmp(fresh, target, shallow=False))
         if merged.is_new:
-            merged.conflicts = sorted(conflicts_of(fresh) - (conflicts_of(state) if known else set()))
+            merged.conflicts = sorted(conflicts_of(fresh, state) - (conflicts_of(state, state) if known else set()))
             if not known and generation is not None:
                 keep_generation(state, generation)
             elif not known and not any(begins_as_state(path) for _, path in inputs):
@@ -212,7 +236,7 @@ def merge_into(state, inputs, generation=None):
 def merge_to(state, inputs, fresh):
     """The same as `written`, for a new file that is to take the place of the site's: a fault of a device names that one."""
     try:
-        return written(inputs, fresh)
+        return written(state, inputs, fresh)
     except Fault as fault:
         if fault.status != 4:
             raise
@@ -224,9 +248,9 @@ def begins_as_state(path):
         return file.read(1) == b"\xfe"
 
 
-def first_refused(known, inputs, fresh):
+def first_refused(state, known, inputs, fresh):
     """The first input that is refused also alone, where a refusal is of no single one, as want of memory is."""
-    return next((at for at, (_, path) in enumerate(inputs) if len(inputs) > 1 and written([*known, path], fresh)), None)
+    return next((at for at, (_, path) in enumerate(inputs) if len(inputs) > 1 and written(state, [*known, path], fresh)), None)
 
 
 @contextlib.contextmanager
