@@ -3,12 +3,15 @@ import collections
 import os
 import tempfile
 
-from program import REFUSED, front_of, run, said, stop
+from program import REFUSED, Progress, front_of, run, said, stop
+from reasons import reason_of
 from refusals import Fault
 from sayings import causes_of, fragment_of, is_state, path_of, why_of
 
 # The faults of one file that are looked for, and the files that may be refused before the report is given up.
 MOST_FAULTS = 40
+# The groups that get a reason in words, for which the program runs on each file that says something.
+MOST_REASONS = 40
 
 
 def first_fault(data):
@@ -56,13 +59,18 @@ def read(name):
 
 
 class Group:
-    """Lines of a report that have one cause: their paths, and the lines of the inputs that say the first one."""
+    """Lines of a report that have one cause: their paths, the lines of the inputs that say the first one, and its reason in words."""
 
     def __init__(self, kind, why):
-        self.kind, self.why, self.paths, self.causes = kind, why, [], []
+        self.kind, self.why, self.paths, self.causes, self.reason = kind, why, [], [], None
+
+    def line(self):
+        """The first line."""
+        return f"{self.kind} {self.paths[0]} {self.why}"
 
     def as_json(self):
-        return {"kind": self.kind, "why": self.why, "paths": self.paths, "from": [cause.as_json() for cause in self.causes]}
+        return {"kind": self.kind, "why": self.why, "reason": self.reason, "paths": self.paths,
+                "from": [cause.as_json() for cause in self.causes]}
 
 
 class Slip:
@@ -162,7 +170,16 @@ class Findings:
         inputs, status, lines, first = admitted([(name, read(name)) for name in files],
                                                 lambda given: run(["report", "--", *(name for name, _ in given)]))
         self.refused = [(fault, name) for one, name in first for fault in faults_of(one.data, one)]
-        self.groups = group_lines([(line, causes_of(line, inputs)) for line in lines])
+        progress, told = Progress("lines of the report", len(lines)), []
+        for number, line in enumerate(lines):
+            progress.step(number)
+            told.append((line, causes_of(line, inputs)))
+        self.groups = group_lines(told)
+        names = [name for name, _ in inputs]
+        for group in self.groups[:MOST_REASONS]:
+            progress.step(len(lines))
+            group.reason = reason_of(group.line(), group.causes, names)
+        progress.end()
         self.slips = slips_of(inputs)
         self.status = 1 if self.refused else status
 

@@ -7,21 +7,22 @@ import signal
 import subprocess
 import sys
 import tempfile
+import time
 
 LIB = os.path.dirname(os.path.realpath(__file__))
 BIN = os.path.dirname(LIB) if os.path.basename(LIB) == "lib" and os.path.exists(f"{os.path.dirname(LIB)}/cuestore") else LIB
 
 
-def found_program():
-    """CUESTORE; what lies beside the name by which the script was called; what is on the path; what lies beside the
-    script, which is last since a checkout's launcher stops while a source is newer than its program."""
-    if os.environ.get("CUESTORE"):
-        return os.environ["CUESTORE"]
-    beside = os.path.join(os.path.dirname(os.path.abspath(sys.argv[0])), "cuestore")
-    return beside if os.access(beside, os.X_OK) else shutil.which("cuestore") or f"{BIN}/cuestore"
+def found_program(name):
+    """What the variable of this name in capitals says; what lies beside the name by which the script was called; what is on the
+    path; what lies beside the script, which is last since a checkout's launcher stops while a source is newer than its program."""
+    if os.environ.get(name.upper()):
+        return os.environ[name.upper()]
+    beside = os.path.join(os.path.dirname(os.path.abspath(sys.argv[0])), name)
+    return beside if os.access(beside, os.X_OK) else shutil.which(name) or f"{BIN}/{name}"
 
 
-CUESTORE = found_program()
+CUESTORE, CUELAYERS = found_program("cuestore"), found_program("cuelayers")
 # The line of a refusal: its number and name, and the place and input, where it is of one. It ends the output, and stands
 # behind the front of an answer where memory ran out while that was written.
 REFUSED = re.compile(rb"refused (\d+) (\w+)(?: at (\d+) in (\d+))?\n\Z")
@@ -109,6 +110,33 @@ def said(out, faults, files=()):
 def visible(text):
     """The text for a line of a script's own, with what a terminal does not show as escapes."""
     return HIDDEN.sub(lambda found: f"\\u{ord(found[0]):04X}", text)
+
+
+STYLES = {"conflict": "1;31", "incomplete": "33", "refused": "1;31", "slip": "36", "quiet": "2"}
+
+
+def styled(text, style, stream=sys.stdout):
+    """The text in a colour for a terminal, unless NO_COLOR is set."""
+    if os.environ.get("NO_COLOR") or os.environ.get("TERM") == "dumb" or not stream.isatty():
+        return text
+    return f"\033[{STYLES[style]}m{text}\033[0m"
+
+
+class Progress:
+    """A line on a terminal's standard error that says how far a tool is, once it has worked for a second."""
+
+    def __init__(self, what, count):
+        self.what, self.count, self.began, self.is_shown = what, count, time.monotonic(), False
+
+    def step(self, number):
+        if sys.stderr.isatty() and time.monotonic() - self.began > 1:
+            self.is_shown = True
+            sys.stderr.write(f"\r{self.what}: {number} of {self.count}\033[K")
+            sys.stderr.flush()
+
+    def end(self):
+        if self.is_shown:
+            sys.stderr.write("\r\033[K")
 
 
 def stop(name, message, status=1):
