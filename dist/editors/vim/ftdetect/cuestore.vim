@@ -1,0 +1,1 @@
+autocmd BufRead,BufNewFile *.cue if &filetype ==# '' | setfiletype cue | endif
