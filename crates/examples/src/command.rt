@@ -1,3 +1,4 @@
+use crate::layers::run_layers;
 use anyhow::{Context, anyhow};
 use cue_program::{Question, Stop, answer_for, merge_into};
 use std::alloc::Global;
@@ -69,17 +70,37 @@ pub fn run(rt: &HostRuntime, folder: &str, command: &str, last: u8) -> anyhow::R
         }),
         ("cmp", [one, other]) => compared(rt, folder, one, other),
         ("cuestore", [word, files @ ..]) => {
-            let input = match input {
-                Some(name) => bytes_of(rt, folder, name)?,
-                None => Vec::new(alloc),
-            };
+            let input = input_of(rt, folder, input)?;
             let printed = told(rt, folder, word, files, &input)?;
-            match output {
-                Some(name) => kept(rt, folder, name, printed),
-                None => Ok(printed),
-            }
+            printed_to(rt, folder, output, printed)
+        }
+        ("cuelayers", arguments) => {
+            let input = input_of(rt, folder, input)?;
+            let printed = run_layers(rt, folder, arguments, &input)?;
+            printed_to(rt, folder, output, printed)
         }
         _ => Err(anyhow!("not a command that a session may have: {command}")),
+    }
+}
+
+/// What is in the file that stands for a command's input, if one does.
+fn input_of(rt: &HostRuntime, folder: &str, name: Option<&str>) -> anyhow::Result<Vec<u8>> {
+    match name {
+        Some(name) => bytes_of(rt, folder, name),
+        None => Ok(Vec::new(rt.alloc())),
+    }
+}
+
+/// What is seen of what a command printed, whose output may go to a file of the folder.
+fn printed_to(
+    rt: &HostRuntime,
+    folder: &str,
+    output: Option<&str>,
+    printed: Printed,
+) -> anyhow::Result<Printed> {
+    match output {
+        Some(name) => kept(rt, folder, name, printed),
+        None => Ok(printed),
     }
 }
 
@@ -94,7 +115,7 @@ fn kept(rt: &HostRuntime, folder: &str, name: &str, printed: Printed) -> anyhow:
 }
 
 /// The path of a file of a folder.
-fn path_of(alloc: Global, folder: &str, name: &str) -> anyhow::Result<String> {
+pub fn path_of(alloc: Global, folder: &str, name: &str) -> anyhow::Result<String> {
     Ok(format!(in alloc; "{folder}/{name}")?)
 }
 

@@ -1,10 +1,11 @@
-//! Goes through sessions of the program `cuestore`: commands, each below what it must print, as a
+//! Goes through sessions of the programs `cuestore` and `cuelayers`: commands, each below what it must print, as a
 //! terminal shows them. It does what each command says with the files of the session's folder, and
 //! tells where something else is printed. `examples FOLDER..` goes through the file `session` of
 //! each folder.
 #![tactic(auto)]
 
 mod command;
+mod layers;
 mod session;
 
 use session::Session;
