@@ -1,11 +1,11 @@
 -- Sets of integers and of texts: their bytes tell them.
-use Rattle.std.proofs.Common.{◌≡◌, ℕ, ℤ, pos, ◌+ℤ◌, ◌≤ℤ◌, List, [], ◌∷◌, ◌++◌, refl, sym, ap, ◌∙◌, subst, arith}
+use Rattle.std.proofs.Common.{◌≡◌, ℕ, ℤ, pos, ◌+ℤ◌, ◌≤ℤ◌, int_lt, false, List, [], ◌∷◌, ◌++◌, refl, sym, ap, ◌∙◌, subst, arith}
 use Rattle.std.specs.Int.{w64, to_be_bytes, cast_signed, cast_unsigned}
 use Rattle.std.specs.List.{flat_map, AllByRecursion}
 use Rattle.std.proofs.lemmas.List.{append-nil}
 use Rattle.std.proofs.lemmas.List.Concat.{flat_map-cons}
 use Rattle.std.proofs.lemmas.Int.{ints}
-use Rattle.cue_sets.specs.Pieces.{least, AscendsFrom, IsCanonical}
+use Rattle.cue_sets.specs.Pieces.{least, greatest, AscendsFrom, IsCanonical}
 use Rattle.cue_codec.specs.Parts.{counted_bytes, piece_bytes}
 use Rattle.cue_codec.specs.Reading.{Begins, BeginsNone, IsPiece, AreCounted}
 use Rattle.cue_codec.specs.Inner.Reading.{AreSo}
@@ -59,3 +59,20 @@ one_piece_alone bytes behind rest first last set is b made h =
     let two = same_integer last b.value.1 in
     let same : set ≡ piece ∷ [] = made ∙ (λ i. (one i, two i) ∷ []) in
     integers_found (piece ∷ []) set bytes rest counted same (subst IsCanonical same h)
+
+-- a piece of integers in order is a set in its one form, however its ends are kept
+pub canonical_piece : (first last : ℤ) → IsPiece (first, last) → cast_signed w64 (cast_unsigned w64 first) ≤ℤ cast_signed w64 (cast_unsigned w64 last)
+    → IsCanonical ((cast_signed w64 (cast_unsigned w64 first), cast_signed w64 (cast_unsigned w64 last)) ∷ [])
+canonical_piece first last p order =
+    let one = same_integer first p.0 in
+    let two = same_integer last p.1 in
+    (subst (λ (n : ℤ). least ≤ℤ n) (sym one) p.0.0, order, subst (λ (n : ℤ). n ≤ℤ greatest) (sym two) p.1.1, tt)
+
+-- the ends of such a set are integers
+pub same_piece : (first last : ℤ) → IsCanonical ((first, last) ∷ []) → ◌≡◌ {A = ℤ × ℤ} (first, last) (cast_signed w64 (cast_unsigned w64 first), cast_signed w64 (cast_unsigned w64 last))
+same_piece first last h =
+    let p = (canonical_pieces ((first, last) ∷ []) h).0 in
+    λ i. (sym (same_integer first p.0) i, sym (same_integer last p.1) i)
+
+pub not_less : (m n : ℤ) → int_lt n m ≡ false → m ≤ℤ n
+not_less m n e = omega (arith, ints)

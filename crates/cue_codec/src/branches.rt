@@ -98,6 +98,7 @@ fn put_own_row(
 
 /// Writes the row at a branch that is so many steps from the root: of its rows, those of the
 /// branches below it are left. The steps to it were written before, as `steps`.
+#[inline(always)]
 pub fn put_place(
     out: &mut Vec<u8>,
     depth: u8,

@@ -48,6 +48,7 @@ pub fn pieces_at(alloc: Global, bytes: &[u8]) -> Result<(Vec<(i64, i64)>, &[u8])
 }
 
 /// A text.
+#[inline(always)]
 pub fn one_text(alloc: Global, bytes: &[u8]) -> Result<(Text, &[u8]), Unread>
     ensures ok { IfOk result (λ x. Begins IsWord text_bytes x.0 bytes.now x.1.now) }
     ensures refused { IfErr result (λ why. IsNoneRead why

@@ -1,9 +1,9 @@
 //! What of a row stands after its level: what it says, and from which index on its elements are
 //! alike, which is 0 where it has none.
 
-ghost use Rattle.std.specs.Prelude.{◌≡◌, IfOk, IfErr, IfSome};
+ghost use Rattle.std.specs.Prelude.{◌≡◌, ◌≤ℤ◌, IfOk, IfErr, IfSome};
 ghost use Rattle.cue_scalars.specs.declared.scalar_set.ScalarSet.{ScalarSet as Set};
-ghost use Rattle.cue_row.specs.Kept.{text_set};
+ghost use Rattle.cue_row.specs.Kept.{integers_set, text_set};
 ghost use Rattle.cue_codec.specs.Parts.{set_bytes, labels_bytes, lengths_bytes};
 ghost use Rattle.cue_codec.specs.Reading.{Begins, BeginsNone, AreWideLengths};
 ghost use Rattle.cue_codec.specs.Inner.Reading.{IsNoneRead};
@@ -13,7 +13,7 @@ ghost use Rattle.cue_codec.specs.RowBytes.{left_out_bytes, parts_bytes, is_empty
 ghost use Rattle.cue_codec.specs.RowBytes.{AreScalars, AreLeftOut, IsStateParts};
 
 use crate::reading::lengths_at;
-use crate::sets::{labels_at, lone_text_at, set_at};
+use crate::sets::{labels_at, lone_piece_at, lone_text_at, set_at};
 use crate::unread::Unread;
 use crate::version::Version;
 use cue_lattice::Text;
@@ -51,8 +51,20 @@ fn usual_text_at(bytes: &[u8]) -> Option<(&str, &[u8])>
     Some((text, rest))
 }
 
+/// The first and the last integer of the set of one piece, all of it usual, where the bytes of both
+/// sets stand in front.
+fn usual_piece_at(bytes: &[u8]) -> Option<(i64, i64, &[u8])>
+    ensures order { IfSome result (λ x. x.0 ≤ℤ x.1) }
+    ensures sets { IfSome result (λ x. Begins AreScalars scalars_bytes
+        (integers_set (x.0, x.1), integers_set (x.0, x.1)) bytes.now x.2.now) }
+{
+    let (first, last, behind) = lone_piece_at(bytes)?;
+    let rest = after_again(bytes, behind)?;
+    Some((first, last, rest))
+}
+
 /// Some scalar, and the usual ones. Where their bytes are the same, the set is read once, and a
-/// single text without a list.
+/// single piece of integers or a single text without a list.
 fn scalar_at(alloc: Global, level: Level, bytes: &[u8]) -> Result<(Row, u64, &[u8]), Unread>
     ensures ok { IfOk result
         (λ x. Reads (λ sets. scalar sets.0 sets.1) AreScalars scalars_bytes level x.0 x.1
@@ -60,6 +72,9 @@ fn scalar_at(alloc: Global, level: Level, bytes: &[u8]) -> Result<(Row, u64, &[u
     ensures refused { IfErr result (λ why. IsNoneRead why
         (BeginsNone AreScalars scalars_bytes) bytes.now) }
 {
+    if let Some((first, last, rest)) = usual_piece_at(bytes) {
+        return Ok((Row::of_range(level, first, last), 0, rest));
+    }
     if let Some((text, rest)) = usual_text_at(bytes) {
         let Ok(text) = Text::from_str(alloc, text) else {
             return Err(Unread::Memory);

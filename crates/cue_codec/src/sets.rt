@@ -1,8 +1,8 @@
 //! Sets, read from the front of the bytes.
 
-ghost use Rattle.std.specs.Prelude.{◌≡◌, ◌<◌, ◌∷◌, ◌++◌, [], IfOk, IfErr, IfSome, IfNone};
+ghost use Rattle.std.specs.Prelude.{◌≡◌, ◌<◌, ◌≤ℤ◌, ◌∷◌, ◌++◌, [], IfOk, IfErr, IfSome, IfNone};
 ghost use Rattle.std.specs.Int.{w64, to_be_bytes};
-ghost use Rattle.cue_row.specs.Kept.{text_set};
+ghost use Rattle.cue_row.specs.Kept.{integers_set, text_set};
 ghost use Rattle.cue_codec.specs.Parts.{bit, counted_bytes, piece_bytes, text_set_bytes, set_bytes};
 ghost use Rattle.cue_codec.specs.Parts.{labels_bytes};
 ghost use Rattle.cue_codec.specs.Reading.{Begins, BeginsNone};
@@ -81,10 +81,12 @@ fn after_count(count: u64, bytes: &[u8]) -> Option<&[u8]>
     Some(rest)
 }
 
-/// The set of the integers of one piece and nothing else, where its bytes stand in front. This
-/// takes no memory.
-fn piece_set_at(alloc: Global, bytes: &[u8]) -> Option<(ScalarSet, &[u8])>
-    ensures { IfSome result (λ x. Begins IsStateSet set_bytes x.0 bytes.now x.1.now) }
+/// The first and the last integer of the set of one piece and nothing else, where its bytes stand
+/// in front.
+pub fn lone_piece_at(bytes: &[u8]) -> Option<(i64, i64, &[u8])>
+    ensures order { IfSome result (λ x. x.0 ≤ℤ x.1) }
+    ensures set { IfSome result (λ x. Begins IsStateSet set_bytes (integers_set (x.0, x.1))
+        bytes.now x.2.now) }
 {
     let rest = after_count(1, bytes)?;
     let ((first, last), rest) = piece_at(rest)?;
@@ -92,13 +94,20 @@ fn piece_set_at(alloc: Global, bytes: &[u8]) -> Option<(ScalarSet, &[u8])>
     if first > last {
         return None;
     }
-    let ints = IntSet::between(first, last);
-    ints.known();
+    Some((first, last, rest))
+}
+
+/// The set of the integers of one piece and nothing else, where its bytes stand in front. This
+/// takes no memory.
+fn piece_set_at(alloc: Global, bytes: &[u8]) -> Option<(ScalarSet, &[u8])>
+    ensures { IfSome result (λ x. Begins IsStateSet set_bytes x.0 bytes.now x.1.now) }
+{
+    let (first, last, rest) = lone_piece_at(bytes)?;
     let set = ScalarSet {
         null: false,
         no: false,
         yes: false,
-        ints,
+        ints: IntSet::between(first, last),
         texts: TextSet::none(alloc),
     };
     Some((set, rest))
@@ -117,6 +126,7 @@ pub fn lone_text_at(bytes: &[u8]) -> Option<(&str, &[u8])>
 }
 
 /// A set of scalars.
+#[inline(always)]
 pub fn set_at(alloc: Global, bytes: &[u8]) -> Result<(ScalarSet, &[u8]), Unread>
     ensures ok { IfOk result (λ x. Begins IsStateSet set_bytes x.0 bytes.now x.1.now) }
     ensures refused { IfErr result (λ why. IsNoneRead why

@@ -37,6 +37,7 @@ fn put_piece(out: &mut Vec<u8>, piece: (i64, i64)) -> Result<(), Memory>
 }
 
 #[tactic(auto, unfolding(crate::specs::Parts::text_bytes))]
+#[inline(always)]
 fn put_text(out: &mut Vec<u8>, text: &Text) -> Result<(), Memory>
     requires { IsShort text.now }
     ensures written { OnOk result (out.new.items ≡ out.old.items ++ text_bytes text.now) }
@@ -110,6 +111,7 @@ fn flags_of(null: bool, no: bool, yes: bool) -> u8
 }
 
 #[tactic(auto, unfolding(crate::specs::Parts::set_bytes))]
+#[inline(always)]
 pub fn put_set(out: &mut Vec<u8>, set: &Scalars) -> Result<(), Memory>
     requires { AllByRecursion IsShort set.now.texts.1 }
     ensures written { OnOk result (out.new.items ≡ out.old.items ++ set_bytes set.now) }

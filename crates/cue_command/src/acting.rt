@@ -20,6 +20,7 @@ use std::alloc::Global;
 use std::env::Env;
 use std::fmt::Write as _;
 use std::io::{Read, Write};
+use std::mem;
 
 /// Runs the program on the words after its name, and answers the exit status: 0 done, 1 refused or
 /// a usage fault, 2 conflicts, 3 incomplete, 4 a device fault.
@@ -58,7 +59,12 @@ where
         (passed W.contents out.old out.new) (passed F.contents faults.old faults.new) result }
 {
     match reply_to(rt, words, input) {
-        Ok(reply) => show(rt.alloc(), &reply, out, faults),
+        Ok(reply) => {
+            let status = show(rt.alloc(), &reply, out, faults);
+            // The process ends after this: nobody needs the memory of the site.
+            mem::forget(reply);
+            status
+        }
         Err(fault) => report(&fault, out, faults),
     }
 }

@@ -24,6 +24,7 @@ use std::alloc::Global;
 use std::mem;
 
 /// Adds what a row says to the root of a table.
+#[inline(always)]
 fn add_row(table: &mut Table<Row>, row: Row) -> Result<(), Memory>
     ensures form { IsTable Refuses IsRow table.new }
     ensures answers { OnOk result (SameAnswers (Answers table.new)
@@ -33,6 +34,7 @@ fn add_row(table: &mut Table<Row>, row: Row) -> Result<(), Memory>
 }
 
 /// What is known where a row stands alone.
+#[inline(always)]
 pub(crate) fn table_of(alloc: Global, row: Row) -> Result<Table<Row>, Memory>
     ensures form { IfOk result (IsTable Refuses IsRow) }
     ensures answers { IfOk result (λ table. SameAnswers (Answers table)
@@ -105,6 +107,7 @@ pub(crate) fn list_of(
 }
 
 /// Adds the mark of a field to what is known of its value.
+#[inline(always)]
 pub(crate) fn mark(table: &mut Table<Row>, mark: Mark) -> Result<(), Memory>
     ensures form { IsTable Refuses IsRow table.new }
     ensures answers { OnOk result (SameAnswers (Answers table.new)
@@ -119,6 +122,7 @@ pub(crate) fn mark(table: &mut Table<Row>, mark: Mark) -> Result<(), Memory>
 }
 
 /// The step to the field of a label.
+#[inline(always)]
 pub(crate) fn step_to(alloc: Global, label: &Label) -> Result<Step, Memory>
     ensures { IfOk result (λ step. step ≡ Step.Label (text_of label.now.name)) }
 {

@@ -77,6 +77,7 @@ impl<'a, 'f, 't> Tables<'a, 'f, 't> {
 
     /// A scalar expression that is neither a name nor a conjunction. One integer or one text is a
     /// row at once, without its set.
+    #[inline(always)]
     fn scalar(&self, expression: &Expr) -> Result<Table<Row>, Memory>
         requires ready { IsReady self.now (tree.expression expression.now) }
         requires scalar { IsScalarLeaf (tree.expression expression.now) }

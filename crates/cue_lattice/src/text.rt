@@ -75,6 +75,7 @@ impl Text {
         })
     }
 
+    #[inline(always)]
     pub fn as_str(&self) -> &str
         ensures { result.now ≡ self.now }
     {
@@ -84,6 +85,7 @@ impl Text {
         }
     }
 
+    #[inline(always)]
     pub fn as_bytes(&self) -> &[u8]
         ensures { result.now ≡ self.now }
     {
@@ -108,6 +110,7 @@ impl Text {
 
     /// The same text once more. This takes no memory, unless a long text has so many copies that
     /// they can't be counted.
+    #[inline(always)]
     pub fn copy(&self, alloc: Global) -> Result<Text, Memory>
         ensures text { IfOk result (λ t. t ≡ self.now) }
         ensures room { length self.now ≤ 22 → IsOk result }
@@ -126,12 +129,14 @@ impl Text {
     }
 
     /// How the bytes compare, which is how the code points compare.
+    #[inline(always)]
     pub fn compare(&self, other: &Text) -> Ordering
         ensures { result ≡ slice_cmp nat_cmp self.now other.now }
     {
         self.as_str().cmp(other.as_str())
     }
 
+    #[inline(always)]
     pub fn same(&self, other: &Text) -> bool
         ensures { IsTrue result ↔ (self.now ≡ other.now) }
     {

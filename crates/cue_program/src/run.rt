@@ -19,6 +19,7 @@ use cue_device::Reader;
 use cue_replica::Replica;
 use std::alloc::Global;
 use std::io::Read;
+use std::mem;
 
 /// What one new site answers that has taken all inputs, as `site_for` says, as it is printed, made
 /// whole: `tell` writes the answer of a site while it is made.
@@ -62,7 +63,10 @@ pub fn merge_into<H: AllocGlobal + Shelf, R: Read>(
 {
     let site = site_for(&*rt, files, input)?;
     let alloc = rt.alloc();
-    put(rt, alloc, name, &Contents::State(&site))
+    let done = put(rt, alloc, name, &Contents::State(&site));
+    // The process ends after this: nobody needs the memory of the site.
+    mem::forget(site);
+    done
 }
 
 /// One new site that has taken all inputs in their order: the files of these names, each read and

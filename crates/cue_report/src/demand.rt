@@ -46,6 +46,7 @@ pub(crate) fn is_demanded(above: Option<&Row>, step: StepRef, row: Option<&Row>)
 }
 
 /// Whether a place does not allow the label of a step.
+#[inline(always)]
 pub(crate) fn is_refused(above: Option<&Row>, step: StepRef) -> bool
     ensures { result ≡ search.is_refused (option_map (λ row. row.now) above.entry)
         (step_at step.entry) }

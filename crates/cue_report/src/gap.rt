@@ -300,6 +300,7 @@ fn reach<S: GapSink>(
 
 /// The gap at a place whose label is allowed, by the row there: whether it is missing. There is
 /// none where no value may stand, or where a single value is told.
+#[inline(always)]
 fn gap_at(alloc: Global, row: Option<&Row>) -> Result<Option<bool>, Memory>
     requires { IfSome row (λ row. IsRow row.now) }
     ensures some { IfOk result (λ found.

@@ -158,6 +158,7 @@ fn scalar_of(alloc: Global, row: &Row) -> Result<Value, Memory>
 }
 
 /// The chosen scalar of a place or, where none is chosen, the first one.
+#[inline(always)]
 pub(crate) fn picked(alloc: Global, row: &Row) -> Result<Option<Scalar>, Memory>
     ensures some { IsRow row.now → IfOk result (λ found.
         IfSome found (IsPicked (AtPlace (Some row.now)) [])) }

@@ -13,6 +13,7 @@ use cue_sets::IntSet;
 
 impl Row {
     /// Whether the row is told at a glance to refuse all that the other refuses, but for levels.
+    #[inline(always)]
     pub(crate) fn covers(&self, other: &Row) -> bool
         ensures { IsTrue result → Covers self.now other.now }
     {

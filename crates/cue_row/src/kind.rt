@@ -31,6 +31,7 @@ pub enum RowKind {
 impl Row {
     /// What may stand at the place. Each row of a valid table has a kind; a row that lets two kinds
     /// of things stand, but not all, has none.
+    #[inline(always)]
     pub fn kind(&self) -> Option<RowKind>
         ensures some { IfSome result (IsKind self.now) }
         ensures none { IfNone result ((kind : Kinds) → ¬ IsKind self.now kind) }

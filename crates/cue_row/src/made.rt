@@ -1,6 +1,6 @@
 //! Rows by what may stand at their place.
 
-ghost use Rattle.std.specs.Prelude.{◌≡◌, IfOk};
+ghost use Rattle.std.specs.Prelude.{◌≡◌, ◌≤ℤ◌, IfOk};
 ghost use Rattle.cue_row.specs.Made.{empty_set, full_set};
 
 use crate::small::Small;
@@ -64,6 +64,7 @@ impl Row {
 
     /// The row of a place where these scalars alone may stand, all of them usual. A row that is
     /// small takes memory for a long text alone.
+    #[inline(always)]
     pub fn of_all_usual(alloc: Global, level: Level, value: ScalarSet) -> Result<Row, Memory>
         ensures { IfOk result (λ row. row ≡ scalar_row level value value) }
     {
@@ -81,6 +82,15 @@ impl Row {
         ensures { result ≡ lone_row level (integers_set (number, number)) }
     {
         Row::small(level, Small::Integers((number, number)))
+    }
+
+    /// The row of a place where the integers from a first to a last one alone may stand. This takes
+    /// no memory.
+    pub fn of_range(level: Level, first: i64, last: i64) -> Row
+        requires { first ≤ℤ last }
+        ensures { result ≡ lone_row level (integers_set (first, last)) }
+    {
+        Row::small(level, Small::Integers((first, last)))
     }
 
     /// The row of a place where one text alone may stand. This takes no memory.

@@ -74,6 +74,7 @@ impl Row {
     }
 
     /// How much is asked of the place.
+    #[inline(always)]
     pub fn level(&self) -> Level
         ensures { result ≡ self.now.level }
     {
@@ -83,6 +84,7 @@ impl Row {
     }
 
     /// The same row, of this level.
+    #[inline(always)]
     pub fn at_level(self, level: Level) -> Row
         ensures { result ≡ at_level level self }
     {
@@ -283,6 +285,7 @@ impl Narrow for Row {
         Ok(Row::of_anything(Level::Optional))
     }
 
+    #[inline(always)]
     fn is_free(&self) -> bool {
         match &self.form {
             Form::Small(level, small) => level.same(Level::Optional) && small.is_anything(),

@@ -42,6 +42,7 @@ pub(crate) enum Small {
 impl Small {
     /// What a place says where these scalars alone may stand and all are usual, where that is
     /// small.
+    #[inline(always)]
     pub(crate) fn of_scalars(alloc: Global, set: &ScalarSet) -> Result<Option<Small>, Memory>
         ensures parts { IfOk result (λ found. IfSome found (λ small. (level : Levels) →
             small_parts level small ≡ lone_row level set.now)) }

@@ -30,6 +30,7 @@ pub enum Named {
 
 impl Named {
     /// The set of this name, if there is one.
+    #[inline(always)]
     pub fn of(name: &str) -> Option<Named>
         ensures { result ≡ named_of name.now }
     {

@@ -52,6 +52,7 @@ pub fn literal<'a>(cursor: Cursor<'a>) -> Parsed<'a, Expr<'a>>
 }
 
 /// A literal of one token, where what stands behind it ends the expression.
+#[inline(always)]
 pub fn lone<'a>(cursor: Cursor<'a>) -> Option<(Expr<'a>, Cursor<'a>)>
     ensures spelled { IfSome result (ReadsLiteral cursor.entry) }
     ensures further { IfSome result (λ r. IsFurther cursor.entry r.1) }

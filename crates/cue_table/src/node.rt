@@ -292,6 +292,7 @@ pub(crate) fn find<'a, R: Narrow>(children: &'a [Child<R>], step: &Step) -> Opti
 }
 
 /// Where the branch at a step is among the branches, or where it would stand.
+#[inline(always)]
 pub(crate) fn place<R: Narrow>(children: &[Child<R>], step: &Step) -> Result<usize, usize>
     requires { Rise (branches children.now) }
     ensures { MatchResult result (IsPlace children.now (step_of step.now))

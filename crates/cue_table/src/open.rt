@@ -147,6 +147,7 @@ fn hang<R: Narrow>(
 }
 
 /// Opens an empty node at each slot.
+#[inline(always)]
 pub(crate) fn open_along<R: Narrow>(
     alloc: Global,
     above: &mut Vec<Open<R>>,

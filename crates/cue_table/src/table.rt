@@ -149,6 +149,7 @@ impl<R: Narrow> Table<R> {
 
     /// Unifies a row into the one at the root, and takes it over. After want of memory the table is
     /// as it was.
+    #[inline(always)]
     pub fn meet_row(&mut self, row: R) -> Result<(), Memory>
         ensures form { IsTable R.refuses R.is_value self.new }
         ensures ok { OnOk result (IsAdded R.refuses self.old [] row self.new) }

@@ -14,5 +14,5 @@ returns-in-Ok g c =
     let sink = g.H.Output.Sink in
     let at : Around = around g.H.Shelf.held g.H.Shelf.makes (reach (n.opens rt) (n.lets_in rt) (n.reaches rt) (n.joins rt) (n.fails rt) (moment source.given source.to_come
     sink.taken source.called sink.called source.failed sink.failed)) rt c.reply_to.new.rt (g.R.Read.remaining c.args.input.now) in
-    run_of_reply (map string_bytes c.args.words.now) at (passed g.W.Write.contents c.args.out.now c.show.new.out)
-    (passed g.F.Write.contents c.args.faults.now c.show.new.faults) c.show.result c.in-Ok.reply c.in-Ok.ensures.reply c.show.ensures
+    run_of_reply (map string_bytes c.args.words.now) at (passed g.W.Write.contents c.args.out.now c.show-status.new.out)
+    (passed g.F.Write.contents c.args.faults.now c.show-status.new.faults) c.show-status.result c.in-Ok.reply c.in-Ok.ensures.reply c.show-status.ensures

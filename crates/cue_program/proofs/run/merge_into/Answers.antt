@@ -8,9 +8,9 @@ returns-in_err-site-clause-stop g c = err_on c.from_residual.result c.in_err-sit
 
 pub returns-clause-merges : goal.returns-clause-merges
 returns-clause-merges g c =
-    ok_more c.put.result c.put.ensures.put (λ h. (c.in_ok-site.site, c.in_ok-site.ensures.holds, h))
+    ok_more c.put-done.result c.put-done.ensures.put (λ h. (c.in_ok-site.site, c.in_ok-site.ensures.holds, h))
 
 pub returns-clause-stop : goal.returns-clause-stop
 returns-clause-stop g c =
-    err_both c.put.result c.put.ensures.fault c.put.ensures.stopped
+    err_both c.put-done.result c.put-done.ensures.fault c.put-done.ensures.stopped
     (λ stop why stopped. inr (c.in_ok-site.site, c.in_ok-site.ensures.holds, why, stopped))
