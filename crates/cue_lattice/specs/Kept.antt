@@ -1,5 +1,5 @@
 -- How a text is kept: what a `Text` is read as, and what each has.
-use Rattle.std.specs.Prelude.{◌≤◌, ℕ, List, take, string_bytes}
+use Rattle.std.specs.Prelude.{◌≡◌, ◌≤◌, ◌-◌, ℕ, List, take, drop, replicate, string_bytes}
 use Rattle.std.specs.Str.{IsUtf8}
 use Rattle.cue_lattice.specs.declared.text.Kept.{Kept}
 use Rattle.cue_lattice.specs.declared.text.Kept.TheVariants.{Short, Long}
@@ -9,7 +9,11 @@ abbrev pub kept_bytes : Kept → List ℕ
 kept_bytes (Short len room) = take len room
 kept_bytes (Long string) = string_bytes string.value
 
--- the length is one of the room, and the bytes are a text
+-- the length is one of the room, and behind so many bytes are zeros
+abbrev pub IsPadded : ℕ → List ℕ → Type 0
+IsPadded len room = (len ≤ 22) × (drop len room ≡ replicate (22 - len) 0)
+
+-- the bytes that are kept are a text
 abbrev pub IsSound : Kept → Type 0
-IsSound (Short len room) = (len ≤ 22) × IsUtf8 (take len room)
+IsSound (Short len room) = IsPadded len room × IsUtf8 (take len room)
 IsSound (Long string) = Unit {0}

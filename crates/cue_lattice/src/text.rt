@@ -1,6 +1,8 @@
-ghost use Rattle.std.specs.Prelude.{◌≡◌, ◌≤◌, ℕ, List, IfOk, IsOk, length, string_bytes, ◌↔◌};
+ghost use Rattle.std.specs.Prelude.{◌≡◌, ◌≤◌, ◌+◌, ℕ, List, IfOk, IsOk, length, take, drop, string_bytes, ◌↔◌};
 ghost use Rattle.std.specs.Prelude.{IsTrue};
+ghost use Rattle.std.specs.Int.{w64, from_be_bytes};
 ghost use Rattle.std.specs.Ordering.{nat_cmp};
+ghost use Rattle.cue_lattice.specs.Kept.{IsPadded};
 ghost use Rattle.std.specs.Cmp.Lexicographic.{slice_cmp};
 
 use crate::Memory;
@@ -133,7 +135,12 @@ impl Text {
     pub fn compare(&self, other: &Text) -> Ordering
         ensures { result ≡ slice_cmp nat_cmp self.now other.now }
     {
-        self.as_str().cmp(other.as_str())
+        match (&self.kept, &other.kept) {
+            (Kept::Short(len, room), Kept::Short(more, others)) => {
+                compare_short(*len, room, *more, others)
+            }
+            _ => self.as_str().cmp(other.as_str()),
+        }
     }
 
     #[inline(always)]
@@ -141,6 +148,46 @@ impl Text {
         ensures { IsTrue result ↔ (self.now ≡ other.now) }
     {
         self.as_str() == other.as_str()
+    }
+}
+
+/// Eight bytes from this one on, as a number whose first byte counts most.
+#[inline(always)]
+fn word_at(room: &[u8; ROOM], at: usize) -> u64
+    requires { at + 8 ≤ 22 }
+    ensures { result ≡ from_be_bytes w64 (take 8 (drop at room.now)) }
+{
+    u64::from_be_bytes([
+        room[at],
+        room[at + 1],
+        room[at + 2],
+        room[at + 3],
+        room[at + 4],
+        room[at + 5],
+        room[at + 6],
+        room[at + 7],
+    ])
+}
+
+/// How texts compare that are kept in themselves, each with zeros behind it: by words of eight
+/// bytes, of which the last two overlap, and then by their lengths.
+#[inline(always)]
+fn compare_short(len: u8, room: &[u8; ROOM], more: u8, others: &[u8; ROOM]) -> Ordering
+    requires left { IsPadded len room.now }
+    requires right { IsPadded more others.now }
+    ensures { result ≡ slice_cmp nat_cmp (take len room.now) (take more others.now) }
+{
+    match word_at(room, 0).cmp(&word_at(others, 0)) {
+        Ordering::Equal => {}
+        order => return order,
+    }
+    match word_at(room, 8).cmp(&word_at(others, 8)) {
+        Ordering::Equal => {}
+        order => return order,
+    }
+    match word_at(room, 14).cmp(&word_at(others, 14)) {
+        Ordering::Equal => len.cmp(&more),
+        order => order,
     }
 }
 
