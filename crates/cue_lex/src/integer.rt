@@ -87,6 +87,7 @@ fn magnitude(literal: &[u8]) -> Option<u64>
 /// The number that digits of a base spell, with single `_` between them, or `u64::MAX` where it is
 /// above that.
 #[tactic(auto, unfolding(crate::specs::Integers::digits_number))]
+#[inline(always)]
 fn digits_value(digits: &[u8], base: u8) -> Option<u64>
     requires at_least { 2 ≤ base }
     requires at_most { base ≤ 36 }
@@ -112,6 +113,7 @@ fn digits_value(digits: &[u8], base: u8) -> Option<u64>
 }
 
 /// What a digit of this base stands for, letters in either case.
+#[inline(always)]
 fn digit_of(byte: u8, base: u8) -> Option<u32>
     requires at_least { 2 ≤ base }
     requires at_most { base ≤ 36 }
