@@ -133,8 +133,28 @@ pub(crate) fn step_to(alloc: Global, label: &Label) -> Result<Step, Memory>
 }
 
 /// Puts a table behind a chain of labels, each of which is in a struct of its own. After want of
-/// memory it is some table.
+/// memory it is some table. Most fields have no chain.
+#[inline(always)]
 pub(crate) fn put_behind(
+    alloc: Global,
+    chain: &[Label],
+    table: &mut Table<Row>,
+) -> Result<(), Memory>
+    requires form { IsTable Refuses IsRow table.old }
+    requires depth { tree_depth table.old + length chain.now ≤ step_limit }
+    ensures form { OnOk result (IsTable Refuses IsRow table.new) }
+    ensures depth { OnOk result (tree_depth table.new ≤ tree_depth table.old + length chain.now) }
+    ensures answers { OnOk result ((c : Core) → HasAnswersOf c table.old →
+        HasAnswersOf (nested chain.now c) table.new) }
+{
+    if chain.is_empty() {
+        return Ok(());
+    }
+    nest(alloc, chain, table)
+}
+
+/// Puts a table behind the labels of a chain, the innermost first.
+fn nest(
     alloc: Global,
     chain: &[Label],
     table: &mut Table<Row>,
@@ -149,7 +169,7 @@ pub(crate) fn put_behind(
     match chain {
         [] => Ok(()),
         [first, rest @ ..] => {
-            put_behind(alloc, rest, table)?;
+            nest(alloc, rest, table)?;
             mark(table, first.mark)?;
             let inner = mem::replace(table, Table::new(alloc));
             let mut fields = Vec::with_capacity(alloc, 1)?;
