@@ -1,9 +1,9 @@
 -- What a crash leaves in each of the two steps of a commit.
-use Rattle.std.proofs.Common.{◌≡◌, ℕ, ◌+◌, ◌<◌, ◌≤◌, ◌^◌, ◌⊎◌, true, false, List, [], ◌∷◌, ◌++◌, length, drop, get_or, refl, sym, ◌∙◌, ap, subst, arith}
+use Rattle.std.proofs.Common.{◌≡◌, ℕ, ◌+◌, ◌<◌, ◌^◌, List, [], ◌∷◌, ◌++◌, length, drop, get_or, sym, ◌∙◌, ap, subst, arith}
 use Rattle.sqlite_disk.specs.Disk.{Holds, Torn, Cut, Follows, Only}
 use Rattle.cue_journal.specs.Blocks.{recovered}
-use Rattle.cue_journal.specs.Frames.{file_head, file_entries, sealed, Bring, IsSound}
-use Rattle.cue_journal.specs.Settled.{EndsAt, IsSettled, IsStaged, IsBeforeOrAfter}
+use Rattle.cue_journal.specs.Frames.{file_head, file_entries, sealed, IsSound}
+use Rattle.cue_journal.specs.Settled.{IsSettled, IsStaged, IsBeforeOrAfter}
 use Rattle.cue_journal.proofs.Files.{entries_there, sound_there, ends_there, added, before_or_after, zero_shut, full_open}
 use Rattle.cue_journal.proofs.Torn.{torn_behind, cut_behind, written_behind, torn_gate}
 

@@ -1,7 +1,7 @@
 -- Files of a journal: a head that names the format, and then frames. A frame is a gate, a length in
 -- eight bytes, the highest first, a checksum, and a batch of so many bytes. It counts if its gate is
 -- open, the batch is whole and has this checksum, and each frame before it counts.
-use Rattle.std.specs.Prelude.{◌≡◌, ◌⊎◌, ℕ, zero, suc, Bool, true, false, ◌<◌, ◌≤◌, ◌^◌, nat_lt, List, [], ◌∷◌, ◌++◌}
+use Rattle.std.specs.Prelude.{◌≡◌, ◌⊎◌, ℕ, zero, suc, Bool, false, ◌≤◌, nat_lt, List, [], ◌∷◌, ◌++◌}
 use Rattle.std.specs.Prelude.{length, take, drop, codes, count_ones, if◌then◌else◌, Option, Some, None}
 use Rattle.std.specs.Int.{w64, to_be_bytes, from_be_bytes}
 use Rattle.std.specs.Str.{bytes_eq}

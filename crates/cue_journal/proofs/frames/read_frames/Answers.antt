@@ -1,6 +1,5 @@
-use Rattle.std.proofs.Common.{◌≡◌, ◌++◌, List, ℕ, map, ap, ◌∙◌, sym, subst}
+use Rattle.std.proofs.Common.{◌++◌, List, ℕ, map, ap, ◌∙◌, sym, subst}
 use Rattle.std.proofs.lemmas.List.{map-append}
-use Rattle.cue_journal.specs.Blocks.{recovered}
 use Rattle.cue_journal.proofs.Scanning.{frame_shorter}
 use Rattle.cue_journal.proofs.Files.{IsScanning, scan_more, scan_entries, scanned_to}
 use Rattle.cue_journal.proofs.frames.read_frames.Goals as goal

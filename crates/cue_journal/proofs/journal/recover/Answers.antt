@@ -1,4 +1,4 @@
-use Rattle.std.proofs.Common.{◌≡◌, ◌≤◌, ℕ, List, length, map, IsTrue, sym, subst, ap, ◌∙◌, arith}
+use Rattle.std.proofs.Common.{◌≤◌, length, map, IsTrue, sym, subst, ap, ◌∙◌, arith}
 use Rattle.cue_journal.proofs.Files.{short_file, short_crash}
 use Rattle.cue_journal.proofs.journal.recover.Goals as goal
 

@@ -1,5 +1,5 @@
-use Rattle.std.proofs.Common.{◌≡◌, ℕ, ◌+◌, ◌<◌, ◌^◌, List, ◌∷◌, ◌++◌, length, sym, subst, ap, ◌∙◌, inl, refl, arith}
-use Rattle.cue_journal.specs.Frames.{file_head, file_entries, sealed}
+use Rattle.std.proofs.Common.{ℕ, ◌+◌, ◌<◌, ◌^◌, List, ◌∷◌, ◌++◌, length, sym, subst, ap, ◌∙◌, inl, refl, arith}
+use Rattle.cue_journal.specs.Frames.{file_head}
 use Rattle.cue_journal.specs.Settled.{IsSettled}
 use Rattle.cue_journal.proofs.Crash.{gate_left, committed}
 use Rattle.cue_journal.proofs.Files.{settled_sound, length-sealed}
