@@ -23,7 +23,10 @@ pub enum Stop {
     Unusable(String),
     /// A file of the journal is damaged, from this byte on.
     #[error("{file}: damaged at byte {at}: stop every process that uses the folder, and put back copies of both files of the journal")]
-    Damaged { file: String, at: usize },
+    Damaged {
+        file: String,
+        at: usize,
+    },
     #[error("out of memory")]
     OutOfMemory,
     #[error("the journal is damaged: entry refused, {0} {1} at {2}")]

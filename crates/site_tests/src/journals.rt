@@ -51,7 +51,10 @@ fn a_journal_is_recovered(rt: HostRuntime) -> Result<(), Fail> {
     journal.commit(&mut batch)?;
     assert_eq!(rt; journal.len(), 19 + 17 + 18);
     let mut disk = journal.into_disk();
-    assert_eq!(rt; disk.bytes().get(..19), Some(b"cuestore journal 2\n".as_slice()));
+    assert_eq!(rt;
+        disk.bytes().get(..19),
+        Some(b"cuestore journal 2\n".as_slice())
+    );
     let (end, entries) = recover(rt.alloc(), &mut disk)?;
     assert_eq!(rt; end, 54);
     assert_eq!(rt; entries.len(), 2);
