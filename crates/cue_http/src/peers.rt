@@ -123,11 +123,7 @@ impl Peers {
     }
 
     /// Takes the connections that wait. Answers whether others wait still.
-    pub(crate) fn take(&mut self, poll: &Poll, listener: &TcpListener, now: Instant) -> Taking
-        // Each connection has a place, and there are no more places than connections may be open.
-        ensures most { length self.new.places.items ≤ max (length self.old.places.items) self.old.bounds.most }
-        ensures bounds { self.new.bounds ≡ self.old.bounds }
-    {
+    pub(crate) fn take(&mut self, poll: &Poll, listener: &TcpListener, now: Instant) -> Taking {
         for _ in 0..MOST_NEW {
             match listener.accept() {
                 Ok((stream, _)) => self.add(poll, stream, now),
@@ -138,10 +134,7 @@ impl Peers {
     }
 
     /// A connection that finds no place is closed.
-    fn add(&mut self, poll: &Poll, mut stream: TcpStream, now: Instant)
-        ensures most { length self.new.places.items ≤ max (length self.old.places.items) self.old.bounds.most }
-        ensures bounds { self.new.bounds ≡ self.old.bounds }
-    {
+    fn add(&mut self, poll: &Poll, mut stream: TcpStream, now: Instant) {
         let Some(place) = self.free_place() else {
             self.turned_away = self.turned_away.saturating_add(1);
             return;
@@ -152,16 +145,14 @@ impl Peers {
         if poll.registry().register(&mut stream, token, both).is_err() {
             return;
         }
-        let mut peer = Peer::new(stream, self.connection(), self.patience(now));
-        if peer.list() && self.listed.push(place).is_err() {
-            return;
-        }
+        let peer = Peer::new(stream, self.connection(), self.patience(now));
         if let Some(room) = self.places.get_mut(place) {
             if let Place::Free(next) = room {
                 self.free = *next;
             }
             *room = Place::Taken(peer);
             self.open = self.open.saturating_add(1);
+            self.list(place);
         }
     }
 

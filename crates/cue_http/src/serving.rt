@@ -240,6 +240,7 @@ impl<S: Settle + Gathers> Loop<S> {
             self.stands = false;
             return Err(Ended::Unsettled(self.service.inner.fault()));
         }
+        self.stands = true;
         self.peers.send(&self.service, now);
         self.busy = self.peers.close() || self.taking == Taking::More;
         Ok(())
