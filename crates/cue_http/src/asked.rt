@@ -1,6 +1,8 @@
-ghost use Rattle.std.specs.Prelude.{◌≡◌, ◌≤◌, ◌⊎◌, [], None, IfSome};
+ghost use Rattle.std.specs.Prelude.{◌≡◌, ◌+◌, ◌*◌, ◌≤◌, ◌⊎◌, [], None, IfSome};
 ghost use Rattle.std.specs.Duration.{as_nanos};
+ghost use Rattle.std.specs.Time.{instant_nanos, FitsClock};
 
+use crate::peer::is_due;
 use crate::question::{Answer, Course, Question, Unasked, Wanted};
 use crate::rounds::{Gathers, News};
 use crate::serving::Bounds;
@@ -30,7 +32,8 @@ pub(crate) struct Asked {
 }
 
 /// What came of a question.
-enum Outcome {
+#[derive(Clone, Copy, Debug, PartialEq, Eq)]
+pub(crate) enum Outcome {
     Taken,
     /// The pieces that were asked for are not to be had: the state has to be asked for.
     Gone,
@@ -72,8 +75,9 @@ impl Asked {
     )
     where
         H: AllocGlobal + Net + RandomSource,
+        ensures pause { ¬ (instant_nanos self.old.next ≤ instant_nanos now) → self.new.question ≡ self.old.question }
     {
-        if self.question.is_some() || now < self.next {
+        if self.question.is_some() || !is_due(now, self.next) {
             return;
         }
         match self.ask(rt, poll, later(now, bounds.idle), service) {
@@ -166,7 +170,10 @@ impl Asked {
     }
 
     /// Takes what an answer brings.
-    fn take<S: Gathers>(&mut self, question: &Question, service: &mut S) -> Outcome {
+    fn take<S: Gathers>(&mut self, question: &Question, service: &mut S) -> Outcome
+        // A place is remembered only where what came with it was taken.
+        ensures { (self.new.cursor ≡ self.old.cursor) ⊎ (self.new.cursor ≡ None) ⊎ (result ≡ Outcome.Taken) }
+    {
         match question.answer() {
             Answer::State(bytes) => {
                 if !service.pulled(bytes) {
@@ -197,8 +204,12 @@ impl Asked {
         service: &mut S,
     )
         ensures pause { as_nanos bounds.now.every ≤ as_nanos self.new.pause }
+        // It is not asked before three quarters of its pause are over.
+        ensures next { FitsClock (instant_nanos now + as_nanos self.old.pause)
+            → 4 * instant_nanos now + 3 * as_nanos self.old.pause ≤ 4 * instant_nanos self.new.next }
         ensures tag { self.new.tag ≡ self.old.tag }
         ensures cursor { self.new.cursor ≡ self.old.cursor }
+        ensures question { self.new.question ≡ self.old.question }
     {
         self.next = later(now, drawn(rt, self.pause));
         self.pause = longer(self.pause, bounds.every);
@@ -225,16 +236,29 @@ fn remember(place: &mut Vec<u8>, bytes: &[u8]) {
     }
 }
 
-pub(crate) fn later(now: Instant, pause: Duration) -> Instant {
+/// This moment, or the one so much later.
+pub(crate) fn later(now: Instant, pause: Duration) -> Instant
+    ensures { FitsClock (instant_nanos now + as_nanos pause)
+        → instant_nanos result ≡ instant_nanos now + as_nanos pause }
+{
     now.checked_add(pause).unwrap_or(now)
 }
 
 /// The pause, or up to a quarter less, so that sites do not ask all at once.
-fn drawn<R: RandomSource>(rt: &R, pause: Duration) -> Duration {
+fn drawn<R: RandomSource>(rt: &R, pause: Duration) -> Duration
+    ensures most { as_nanos result ≤ as_nanos pause }
+    ensures least { 3 * as_nanos pause ≤ 4 * as_nanos result }
+{
     let mut draw = [0u8; 1];
     if rt.fill_bytes(&mut draw).is_err() {
         return pause;
     }
-    let part = (pause / 1024).saturating_mul(u32::from(draw[0]));
-    pause.saturating_sub(part)
+    pause.saturating_sub(part_of(pause, draw[0]))
+}
+
+/// A quarter of the pause at most.
+fn part_of(pause: Duration, draw: u8) -> Duration
+    ensures { 4 * as_nanos result ≤ as_nanos pause }
+{
+    (pause / 1024).saturating_mul(u32::from(draw))
 }

@@ -1,8 +1,12 @@
-ghost use Rattle.std.specs.Prelude.{◌≡◌, ◌↔◌};
+ghost use Rattle.std.specs.Prelude.{◌≡◌, ◌↔◌, ◌≤◌, ◌+◌, length, max, OnOk};
+ghost use Rattle.http_server.specs.Connection.{history};
+ghost use Rattle.http_server.specs.History.{new_history};
+ghost use Rattle.cue_http.specs.Standing.{sent_by, IsSettled};
 
 use crate::peer::Peer;
 use crate::rounds::{Gathers, InRound};
 use crate::serving::Bounds;
+use crate::wait::Wait;
 use http_server::{Connection, Settle};
 use mio::net::{TcpListener, TcpStream};
 use mio::{Interest, Poll, Token};
@@ -152,7 +156,9 @@ impl Peers {
         }
     }
 
-    fn connection(&self) -> Connection {
+    fn connection(&self) -> Connection
+        ensures { history result ≡ new_history }
+    {
         Connection::new(self.alloc, self.keys, self.bounds.config)
     }
 
@@ -161,7 +167,10 @@ impl Peers {
         now.checked_add(self.bounds.idle).unwrap_or(now)
     }
 
-    fn free_place(&mut self) -> Option<usize> {
+    fn free_place(&mut self) -> Option<usize>
+        ensures most { length self.new.places.items ≤ max (length self.old.places.items) self.old.bounds.most }
+        ensures bounds { self.new.bounds ≡ self.old.bounds }
+    {
         if self.free.is_none() && self.places.len() < self.bounds.most {
             self.make_place();
         }
@@ -170,7 +179,10 @@ impl Peers {
 
     /// Makes one more place, and room in both lists for each place that there is, where there is
     /// memory.
-    fn make_place(&mut self) {
+    fn make_place(&mut self)
+        ensures most { length self.new.places.items ≤ length self.old.places.items + 1 }
+        ensures bounds { self.new.bounds ≡ self.old.bounds }
+    {
         let place = self.places.len();
         let count = place.saturating_add(1);
         let has_room = reserve(&mut self.listed, &mut self.next, count).is_ok();
@@ -208,10 +220,7 @@ impl Peers {
             if let Some(Place::Taken(peer)) = self.places.get_mut(*place) {
                 if peer.is_ready() {
                     let waited = peer.waits();
-                    peer.receive();
-                    if !peer.waits() {
-                        peer.answer(service, now, self.waiting < self.bounds.waiting);
-                    }
+                    work(peer, service, now, self.waiting < self.bounds.waiting);
                     self.waiting = counted(self.waiting, waited, peer.waits());
                 }
             }
@@ -243,12 +252,14 @@ impl Peers {
     }
 
     /// Sends the answers, which stand.
-    pub(crate) fn send(&mut self, now: Instant) {
+    pub(crate) fn send<S: Settle>(&mut self, service: &InRound<S>, now: Instant)
+        requires { IsSettled S.settles service.now.inner }
+    {
         let until = self.patience(now);
         for place in &self.listed {
             if let Some(Place::Taken(peer)) = self.places.get_mut(*place) {
                 if peer.can_send() {
-                    peer.send(until);
+                    peer.send(service, until);
                 }
             }
         }
@@ -280,8 +291,34 @@ impl Peers {
     }
 }
 
+/// Reads from a peer, and has the service answer. The answer is held back only where one more may
+/// wait.
+fn work<S: Settle + Gathers>(
+    peer: &mut Peer,
+    service: &mut InRound<S>,
+    now: Instant,
+    may_wait: bool,
+)
+    ensures sent { sent_by peer.new ≡ sent_by peer.old }
+{
+    peer.receive();
+    if peer.waits() {
+        return;
+    }
+    if let Some(Wait { question, seconds }) = peer.answer(service) {
+        if may_wait {
+            let edition = service.inner.edition();
+            let until = now.checked_add(Duration::from_secs(seconds)).unwrap_or(now);
+            peer.hold(question, edition, until);
+        }
+    }
+}
+
 /// Adds an item at the end. Of items of any type, so that a proof of a caller does not open them.
-pub(crate) fn add<T: Drop>(list: &mut Vec<T>, item: T) -> Result<(), AllocError> {
+pub(crate) fn add<T: Drop>(list: &mut Vec<T>, item: T) -> Result<(), AllocError>
+    ensures done { OnOk result (length list.new.items ≡ length list.old.items + 1) }
+    ensures most { length list.new.items ≤ length list.old.items + 1 }
+{
     list.push(item)?;
     Ok(())
 }

@@ -1,3 +1,5 @@
+ghost use Rattle.std.specs.Prelude.{◌≡◌, ◌≤◌, ◌++◌, length, OnOk};
+
 use cue_pieces::Cursor;
 use http1::{BodySize, Client, Event, Header, Limits, WriteError};
 use httparse::spans::{EMPTY_HEADER_SPAN, HeaderSpan};
@@ -82,6 +84,33 @@ pub(crate) enum Answer<'a> {
     None,
 }
 
+/// The body of an answer.
+#[derive(Drop)]
+struct Body {
+    bytes: Vec<u8>,
+    // No answer of a source is longer than 64 MiB.
+    ghost short: { length bytes.items ≤ 67_108_864 },
+}
+
+impl Body {
+    fn new(alloc: Global) -> Body {
+        Body {
+            bytes: Vec::new(alloc),
+        }
+    }
+
+    /// Adds a piece, unless the body is too long with it.
+    fn add(&mut self, piece: &[u8]) -> io::Result<()>
+        ensures { OnOk result (self.new.bytes.items ≡ self.old.bytes.items ++ piece.now) }
+    {
+        if piece.len() > MOST_BYTES.saturating_sub(self.bytes.len()) {
+            return Err(ErrorKind::InvalidData.into());
+        }
+        self.bytes.extend_from_slice(piece)?;
+        Ok(())
+    }
+}
+
 /// A question to a source, and what came of the answer so far.
 #[derive(Drop)]
 pub(crate) struct Question {
@@ -93,7 +122,7 @@ pub(crate) struct Question {
     sent: usize,
     room: Vec<u8>,
     input: Vec<u8>,
-    body: Vec<u8>,
+    body: Body,
     tag: Vec<u8>,
     cursor: Vec<u8>,
     code: u16,
@@ -179,7 +208,7 @@ impl Question {
             sent: 0,
             room: Vec::from_elem(alloc, 0, PIECE)?,
             input: Vec::new(alloc),
-            body: Vec::new(alloc),
+            body: Body::new(alloc),
             tag: Vec::new(alloc),
             cursor: Vec::new(alloc),
             code: 0,
@@ -195,9 +224,9 @@ impl Question {
     /// What the whole answer says.
     pub(crate) fn answer(&self) -> Answer<'_> {
         match (self.for_pieces, self.course, self.code) {
-            (false, Course::Answered, 200) => Answer::State(&self.body),
+            (false, Course::Answered, 200) => Answer::State(&self.body.bytes),
             (false, Course::Answered, 304) => Answer::Same,
-            (true, Course::Answered, 200) => Answer::Pieces(&self.body),
+            (true, Course::Answered, 200) => Answer::Pieces(&self.body.bytes),
             (true, Course::Answered | Course::Unfit, _) => Answer::Gone,
             _ => Answer::None,
         }
@@ -299,10 +328,7 @@ impl Question {
                     let Some(piece) = rest.get(span.start..span.end) else {
                         return Err(ErrorKind::InvalidData.into());
                     };
-                    if piece.len() > MOST_BYTES.saturating_sub(self.body.len()) {
-                        return Err(ErrorKind::InvalidData.into());
-                    }
-                    self.body.extend_from_slice(piece)?;
+                    self.body.add(piece)?;
                 }
                 Event::End(_) => {
                     self.course = Course::Answered;

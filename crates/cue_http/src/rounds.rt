@@ -1,4 +1,4 @@
-ghost use Rattle.std.specs.Prelude.{◌≡◌, ℕ, Bool, List};
+ghost use Rattle.std.specs.Prelude.{◌≡◌, ◌≤◌, ℕ, Bool, List, Some, None, IfSome};
 ghost use Rattle.http.specs.declared.request.Request.{Request};
 ghost use Rattle.http_server.specs.declared.response.Response.{Response};
 
@@ -43,7 +43,9 @@ pub trait Gathers {
 
     /// How many seconds the one who asks waits for a change, where this response has nothing new
     /// for it, and it is to be held back so long.
-    fn patience(&self, request: &Request<Bytes>, response: &Response) -> Option<u64>;
+    fn patience(&self, request: &Request<Bytes>, response: &Response) -> Option<u64>
+        // Only an answer that nothing is new waits.
+        ensures { IfSome result (λ _. response.now.status ≡ 304) };
 
     /// A number that is another one as soon as the answers are others.
     fn edition(&mut self) -> u64;
@@ -74,7 +76,9 @@ pub struct InRound<S> {
 }
 
 impl<S> InRound<S> {
-    pub(crate) fn new(alloc: Global, inner: S) -> InRound<S> {
+    pub(crate) fn new(alloc: Global, inner: S) -> InRound<S>
+        ensures { result.inner ≡ inner }
+    {
         InRound {
             inner,
             alloc,
@@ -84,13 +88,19 @@ impl<S> InRound<S> {
     }
 
     /// Forgets the calls so far.
-    pub(crate) fn begin(&mut self) {
+    pub(crate) fn begin(&mut self)
+        ensures inner { self.new.inner ≡ self.old.inner }
+        ensures calls { self.new.calls ≡ 0 }
+    {
         self.calls = 0;
         self.wait = None;
     }
 
     /// How the request waits that was answered since, where it was the only one.
-    pub(crate) fn take_wait(&mut self) -> Option<Wait> {
+    pub(crate) fn take_wait(&mut self) -> Option<Wait>
+        ensures inner { self.new.inner ≡ self.old.inner }
+        ensures one { IfSome result (λ wait. (self.old.calls ≡ 1) × (self.old.wait ≡ Some wait)) }
+    {
         if self.calls == 1 {
             self.wait.take()
         } else {
@@ -99,8 +109,24 @@ impl<S> InRound<S> {
     }
 }
 
+/// How one waits who gets this response to this request, where nothing is new for it.
+fn wait_of<S: Gathers>(
+    service: &S,
+    alloc: Global,
+    request: &Request<Bytes>,
+    response: &Response,
+) -> Option<Wait>
+    ensures { IfSome result (λ wait. (response.now.status ≡ 304) × (wait.seconds ≤ 3600)) }
+{
+    let seconds = service.patience(request, response)?;
+    let wait = asked_again(alloc, request, seconds)?;
+    Some(wait)
+}
+
 impl<S: Settle + Gathers> Service for InRound<S> {
-    ghost answers = { λ old request response new. S.Settle.answers old.inner request response new.inner };
+    ghost use Rattle.cue_http.specs.Waits.{IsCounted};
+
+    ghost answers = { IsCounted S.Settle.answers };
 
     fn call(
         &mut self,
@@ -109,10 +135,7 @@ impl<S: Settle + Gathers> Service for InRound<S> {
     ) -> Result<(), AllocError> {
         self.inner.call(request, response)?;
         self.calls = self.calls.saturating_add(1);
-        self.wait = match self.inner.patience(request, response) {
-            Some(seconds) => asked_again(self.alloc, request, seconds),
-            None => None,
-        };
+        self.wait = wait_of(&self.inner, self.alloc, request, response);
         Ok(())
     }
 }

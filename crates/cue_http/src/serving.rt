@@ -1,4 +1,5 @@
-ghost use Rattle.std.specs.Prelude.{◌≤◌, IfOk};
+ghost use Rattle.std.specs.Prelude.{◌≡◌, ◌≤◌, length, true, false, IfOk, OnOk, OnErr};
+ghost use Rattle.cue_http.specs.Standing.{IsSettled};
 
 use crate::asked::{Asked, later, token_of};
 use crate::ended::{Ended, called};
@@ -56,6 +57,8 @@ struct Loop<S> {
     again: Instant,
     /// Something can go on without a wait.
     busy: bool,
+    /// All rounds so far stand.
+    stands: bool,
 }
 
 /// Serves connections until a round does not stand, or for so many rounds.
@@ -129,7 +132,9 @@ fn asked_of(
     sources: &[Source],
     now: Instant,
     every: Duration,
-) -> Result<Vec<Asked>, AllocError> {
+) -> Result<Vec<Asked>, AllocError>
+    ensures { IfOk result (λ asked. length asked.items ≡ length sources.now) }
+{
     let mut asked = Vec::new(alloc);
     for (number, source) in sources.iter().enumerate() {
         add(&mut asked, Asked::new(alloc, number, source.at, now, every))?;
@@ -146,7 +151,9 @@ impl<S: Drop> Loop<S> {
         sources: &[Source],
         service: S,
         start: Instant,
-    ) -> Result<Loop<S>, AllocError> {
+    ) -> Result<Loop<S>, AllocError>
+        ensures { IfOk result (λ state. (state.stands ≡ true) × (length state.asked.items ≡ length sources.now)) }
+    {
         Ok(Loop {
             peers: Peers::new(alloc, keys, bounds, start),
             asked: asked_of(alloc, sources, start, bounds.every)?,
@@ -155,6 +162,7 @@ impl<S: Drop> Loop<S> {
             taking: Taking::More,
             again: start,
             busy: true,
+            stands: true,
         })
     }
 }
@@ -168,7 +176,9 @@ impl<S: Settle + Gathers> Loop<S> {
         }
     }
 
-    fn wake(&mut self, token: usize) {
+    fn wake(&mut self, token: usize)
+        ensures { self.new.stands ≡ self.old.stands }
+    {
         if token == LISTENER {
             self.taking = Taking::More;
         } else if token < token_of(self.asked.len()) {
@@ -203,6 +213,12 @@ impl<S: Settle + Gathers> Loop<S> {
     ) -> Result<(), Ended>
     where
         H: AllocGlobal + Net + RandomSource,
+        // Behind a round that did not settle there is none.
+        requires { self.old.stands ≡ true }
+        // The service is just as a `settle` left it that stood: nothing was called behind that.
+        ensures settled { OnOk result (IsSettled S.Settle.settles self.new.service.inner) }
+        ensures goes_on { OnOk result (self.new.stands ≡ true) }
+        ensures ends { OnErr result (self.new.stands ≡ false) }
     {
         self.take(poll, listener, now);
         for asked in &mut self.asked {
@@ -221,9 +237,11 @@ impl<S: Settle + Gathers> Loop<S> {
         // What does not stand must not be told, nor what follows it: a new start reads the files
         // again.
         if !self.service.inner.settle() {
+            self.stands = false;
             return Err(Ended::Unsettled(self.service.inner.fault()));
         }
-        self.peers.send(now);
+        self.stands = true;
+        self.peers.send(&self.service, now);
         self.busy = self.peers.close() || self.taking == Taking::More;
         Ok(())
     }

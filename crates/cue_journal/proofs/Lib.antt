@@ -1,6 +1,7 @@
 pub mod Clearing
 pub mod Crash
+pub mod Files
 pub mod Pairs
 pub mod Reading
-pub mod Shutting
+pub mod Scanning
 pub mod Torn

@@ -1,5 +1,7 @@
 pub mod Batches
 pub mod Blocks
+pub mod Damage
+pub mod Frames
 pub mod Journals
 pub mod Pairs
 pub mod Settled

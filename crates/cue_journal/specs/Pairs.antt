@@ -1,6 +1,7 @@
 -- Two journals: the entries are those of the spare one and then those of the one that grows.
 use Rattle.std.specs.Prelude.{Bool, ◌≡◌, ◌⊎◌, ◌++◌, ◌&&◌, ℕ, List}
-use Rattle.cue_journal.specs.Blocks.{recovered}
+use Rattle.cue_journal.specs.Frames.{file_entries}
+use Rattle.cue_journal.specs.Settled.{LeavesSound}
 use Rattle.cue_journal.specs.Journals.{disk_of, is_open, IsReady}
 use Rattle.cue_journal.specs.declared.journal.Journal.{Journal}
 use Rattle.cue_journal.specs.declared.pair.Pair.{Pair}
@@ -17,7 +18,7 @@ is_whole p = is_open p.growing && is_open p.spare
 
 -- the entries that the files have
 abbrev pub entries_of : {D : Type 0} → (D → List ℕ) → Pair D → List (List ℕ)
-entries_of seen p = recovered (seen (disk_of p.spare)) ++ recovered (seen (disk_of p.growing))
+entries_of seen p = file_entries (seen (disk_of p.spare)) ++ file_entries (seen (disk_of p.growing))
 
 -- both may be written to, and both files are as between two calls
 pub record IsPairReady {D : Type 0} (seen : D → List ℕ) (may_leave : D → List ℕ → Type 0) (p : Pair D) : Type 0 where
@@ -28,7 +29,7 @@ pub record IsPairReady {D : Type 0} (seen : D → List ℕ) (may_leave : D → L
 abbrev pub MayLeave : {D : Type 0} → (D → List ℕ → Type 0) → Pair D → List (List ℕ) → Type 0
 MayLeave may_leave p entries =
     (first second : List ℕ) × may_leave (disk_of p.spare) first × may_leave (disk_of p.growing) second
-    × (entries ≡ recovered first ++ recovered second)
+    × (entries ≡ file_entries first ++ file_entries second)
 
 -- the entries from before, with those of a batch or without
 abbrev pub IsCommitted : List (List ℕ) → List (List ℕ) → List (List ℕ) → Type 0
@@ -38,3 +39,7 @@ IsCommitted entries more left = (left ≡ entries) ⊎ (left ≡ entries ++ more
 abbrev pub IsCondensed : List (List ℕ) → List (List ℕ) → List (List ℕ) → List (List ℕ) → Type 0
 IsCondensed spare growing batch left =
     (left ≡ spare ++ growing) ⊎ ((left ≡ (spare ++ batch) ++ growing) ⊎ (left ≡ spare ++ batch))
+
+-- a crash leaves damage in neither file
+abbrev pub LeaveSound : {D : Type 0} → (D → List ℕ → Type 0) → Pair D → Type 0
+LeaveSound may_leave p = LeavesSound (may_leave (disk_of (spare_of p))) × LeavesSound (may_leave (disk_of (growing_of p)))

@@ -3,7 +3,9 @@ ghost use Rattle.std.specs.Prelude.{◌∷◌, length, take, drop, map, None, So
 ghost use Rattle.std.specs.Prelude.{OnOk, OnErr, IsErrOf};
 ghost use Rattle.cue_journal.specs.Blocks.{next_piece, recovered, IsScanned};
 ghost use Rattle.cue_journal.specs.Settled.{IsBatch};
+ghost use Rattle.cue_journal.specs.Frames.{sealed};
 
+use crate::frames::checksum_of;
 use std::alloc::{AllocError, Global};
 
 /// The piece of the first block, where it counts, and what follows it.
@@ -113,6 +115,21 @@ impl Batch {
         self.bytes.extend_from_slice(head)?;
         self.bytes.push(first)?;
         self.bytes.extend_from_slice(rest)
+    }
+
+    /// Puts the length and the checksum of the blocks in front of them, and a closed gate behind them.
+    #[tactic(auto, unfolding(crate::specs::Frames::sealed))]
+    pub(crate) fn seal(&mut self) -> Result<(), AllocError>
+        requires { length self.old.bytes.items < 2 ^ 64 }
+        ensures { OnOk result (self.new.bytes.items ≡ sealed (self.old.bytes.items)) }
+    {
+        let size = (self.bytes.len() as u64).to_be_bytes();
+        let sum = checksum_of(&self.bytes);
+        self.bytes.extend_from_slice(&size)?;
+        self.bytes.extend_from_slice(&sum)?;
+        self.bytes.rotate_right(16);
+        self.bytes.push(0)?;
+        Ok(())
     }
 
     /// Takes back what was added behind so many bytes.

@@ -1,19 +1,28 @@
 ghost use Rattle.std.specs.Prelude.{◌≡◌, ◌≢◌, ◌⊎◌, ◌+◌, ◌<◌, ◌≤◌, ◌^◌, ◌++◌, [], ◌∷◌, ℕ, List};
-ghost use Rattle.std.specs.Prelude.{length, map, true, false, IsTrue, IfOk, OnOk, OnErr};
+ghost use Rattle.std.specs.Prelude.{length, map, true, false, IsTrue, IfOk, IfErr, OnOk, OnErr};
 ghost use Rattle.sqlite_disk.specs.Disk.{Only};
-ghost use Rattle.cue_journal.specs.Blocks.{recovered, IsScanned};
-ghost use Rattle.cue_journal.specs.Settled.{IsSettled, IsBatch, IsBeforeOrAfter, IsKeptOrCleared};
-ghost use Rattle.cue_journal.specs.Settled.{IsStaged, CanBeShut};
+ghost use Rattle.cue_journal.specs.Blocks.{recovered};
+ghost use Rattle.cue_journal.specs.Frames.{file_head, file_entries, IsSound};
+ghost use Rattle.cue_journal.specs.Settled.{IsSettled, IsBatch, IsBeforeOrAfter, IsKeptOrCleared, LeavesSound};
+ghost use Rattle.cue_journal.specs.Settled.{EndsAt, IsStaged};
 ghost use Rattle.cue_journal.specs.Batches.{batch_bytes};
+ghost use Rattle.cue_journal.specs.Damage.{IsDamage};
 
-use crate::blocks::{Batch, read_pieces};
+use crate::blocks::Batch;
+use crate::frames::{HEAD, OPEN, Unread, read_file};
 use sqlite_disk::Disk;
 use std::alloc::Global;
 use std::io;
 use std::io::ErrorKind;
 
+/// What a new file has: the head, and a closed gate.
+const FIRST: &[u8] = b"cuestore journal 2\n\0";
+
 /// No file of a journal is longer.
 const MOST: usize = 1 << 40;
+
+/// A gate, the length and the checksum of a batch.
+pub(crate) const FRAME: usize = 17;
 
 /// A file of blocks, of which those that count are on the disk.
 #[derive(Drop)]
@@ -30,9 +39,10 @@ fn stage<D: Disk>(disk: &mut D, end: usize, bytes: &[u8]) -> io::Result<()>
     requires end { end ≤ MOST }
     requires some { 0 < length bytes.now }
     ensures crash { (s : IsSettled (D.seen disk.old) (D.may_leave disk.old) end) → (c : List ℕ)
-        → D.may_leave disk.new c → recovered c ≡ recovered (D.seen disk.old) }
+        → D.may_leave disk.new c → file_entries c ≡ file_entries (D.seen disk.old) }
+    ensures sound { IsSettled (D.seen disk.old) (D.may_leave disk.old) end → LeavesSound (D.may_leave disk.new) }
     ensures ok { OnOk result ((s : IsSettled (D.seen disk.old) (D.may_leave disk.old) end)
-        → IsStaged (D.seen disk.new) (D.may_leave disk.new) end s.front bytes.now) }
+        → IsStaged (D.seen disk.new) (D.may_leave disk.new) end (file_head ++ s.ends.frames) bytes.now) }
     ensures usable { OnOk result (IsTrue (D.is_usable disk.new)) }
 {
     disk.write_at(end + 1, bytes)?;
@@ -58,10 +68,11 @@ fn fill<D: Disk>(disk: &mut D, end: usize, bytes: &[u8]) -> io::Result<Room>
     requires usable { IsTrue (D.is_usable disk.old) }
     requires end { end ≤ MOST }
     ensures crash { (s : IsSettled (D.seen disk.old) (D.may_leave disk.old) end) → (c : List ℕ)
-        → D.may_leave disk.new c → recovered c ≡ recovered (D.seen disk.old) }
+        → D.may_leave disk.new c → file_entries c ≡ file_entries (D.seen disk.old) }
+    ensures sound { IsSettled (D.seen disk.old) (D.may_leave disk.old) end → LeavesSound (D.may_leave disk.new) }
     ensures ok { OnOk result (IsSettled (D.seen disk.old) (D.may_leave disk.old) end
         → IsSettled (D.seen disk.new) (D.may_leave disk.new) end
-        × (recovered (D.seen disk.new) ≡ recovered (D.seen disk.old))) }
+        × (file_entries (D.seen disk.new) ≡ file_entries (D.seen disk.old))) }
 {
     match disk.write_at(end + 1, bytes) {
         Ok(()) => {
@@ -84,9 +95,9 @@ fn open_gate<D: Disk>(disk: &mut D, end: usize) -> io::Result<()>
         → (c : List ℕ) → D.may_leave disk.new c → (gate : ℕ) × (c ≡ front ++ gate ∷ (bytes ++ s.junk)) }
     ensures ok { OnOk result ((front bytes : List ℕ)
         → (s : IsStaged (D.seen disk.old) (D.may_leave disk.old) end front bytes)
-        → (D.seen disk.new ≡ front ++ 1 ∷ (bytes ++ s.junk)) × Only (D.seen disk.new) (D.may_leave disk.new)) }
+        → (D.seen disk.new ≡ front ++ 255 ∷ (bytes ++ s.junk)) × Only (D.seen disk.new) (D.may_leave disk.new)) }
 {
-    disk.write_at(end, &[1])?;
+    disk.write_at(end, &[OPEN])?;
     disk.sync()?;
     Ok(())
 }
@@ -94,14 +105,16 @@ fn open_gate<D: Disk>(disk: &mut D, end: usize) -> io::Result<()>
 /// Closes the gate of the first block, and has it reach the disk: from then on no block counts.
 fn close_first<D: Disk>(disk: &mut D) -> io::Result<()>
     requires usable { IsTrue (D.is_usable disk.old) }
-    ensures crash { (end : ℕ) → IsSettled (D.seen disk.old) (D.may_leave disk.old) end → 0 < end
-        → (c : List ℕ) → D.may_leave disk.new c → IsKeptOrCleared (recovered (D.seen disk.old)) c }
+    ensures crash { (end : ℕ) → IsSettled (D.seen disk.old) (D.may_leave disk.old) end → 19 < end
+        → (c : List ℕ) → D.may_leave disk.new c → IsKeptOrCleared (file_entries (D.seen disk.old)) c }
+    ensures sound { (end : ℕ) → IsSettled (D.seen disk.old) (D.may_leave disk.old) end → 19 < end
+        → LeavesSound (D.may_leave disk.new) }
     ensures ok { OnOk result ((end : ℕ)
-        → IsSettled (D.seen disk.old) (D.may_leave disk.old) end → 0 < end
-        → IsSettled (D.seen disk.new) (D.may_leave disk.new) 0
-        × (recovered (D.seen disk.new) ≡ [])) }
+        → IsSettled (D.seen disk.old) (D.may_leave disk.old) end → 19 < end
+        → IsSettled (D.seen disk.new) (D.may_leave disk.new) 19
+        × (file_entries (D.seen disk.new) ≡ [])) }
 {
-    disk.write_at(0, &[0])?;
+    disk.write_at(HEAD.len(), &[0])?;
     disk.sync()?;
     Ok(())
 }
@@ -115,12 +128,13 @@ impl<D: Disk> Journal<D> {
     pub fn commit(&mut self, batch: &mut Batch) -> io::Result<()>
         ensures acknowledged { OnOk result (IsReady D.Disk.seen D.Disk.may_leave self.old → IsBatch (batch_bytes batch.old)
             → IsReady D.Disk.seen D.Disk.may_leave self.new
-            × (recovered (D.Disk.seen (disk_of self.new)) ≡ recovered (D.Disk.seen (disk_of self.old)) ++ recovered (batch_bytes batch.old))) }
+            × (file_entries (D.Disk.seen (disk_of self.new)) ≡ file_entries (D.Disk.seen (disk_of self.old)) ++ recovered (batch_bytes batch.old))) }
 
         // A crash at this moment leaves the pieces from before, with those of the batch or without.
         ensures crash { IsReady D.Disk.seen D.Disk.may_leave self.old → IsBatch (batch_bytes batch.old)
             → (c : List ℕ) → D.Disk.may_leave (disk_of self.new) c
-            → IsBeforeOrAfter (recovered (D.Disk.seen (disk_of self.old))) (recovered (batch_bytes batch.old)) c }
+            → IsBeforeOrAfter (file_entries (D.Disk.seen (disk_of self.old))) (recovered (batch_bytes batch.old)) c }
+        ensures sound { IsReady D.Disk.seen D.Disk.may_leave self.old → LeavesSound (D.Disk.may_leave (disk_of self.new)) }
         ensures open { OnOk result ((is_open self.old ≡ true) × (is_open self.new ≡ true)) }
         ensures closed { OnErr result (is_open self.new ≡ false) }
         ensures empty { batch_bytes batch.new ≡ [] }
@@ -138,12 +152,13 @@ impl<D: Disk> Journal<D> {
     pub fn clear(&mut self) -> io::Result<()>
         ensures cleared { OnOk result (IsReady D.Disk.seen D.Disk.may_leave self.old
             → IsReady D.Disk.seen D.Disk.may_leave self.new
-            × (recovered (D.Disk.seen (disk_of self.new)) ≡ [])) }
+            × (file_entries (D.Disk.seen (disk_of self.new)) ≡ [])) }
 
         // A crash at this moment leaves the entries as they were, or none.
         ensures crash { IsReady D.Disk.seen D.Disk.may_leave self.old
             → (c : List ℕ) → D.Disk.may_leave (disk_of self.new) c
-            → IsKeptOrCleared (recovered (D.Disk.seen (disk_of self.old))) c }
+            → IsKeptOrCleared (file_entries (D.Disk.seen (disk_of self.old))) c }
+        ensures sound { IsReady D.Disk.seen D.Disk.may_leave self.old → LeavesSound (D.Disk.may_leave (disk_of self.new)) }
         ensures open { OnOk result ((is_open self.old ≡ true) × (is_open self.new ≡ true)) }
         ensures closed { OnErr result (is_open self.new ≡ false) }
     {
@@ -152,12 +167,12 @@ impl<D: Disk> Journal<D> {
         if !was_open || !self.disk.may_be_used() {
             return Err(ErrorKind::Other.into());
         }
-        if self.end == 0 {
+        if self.end <= HEAD.len() {
             self.open = true;
             return Ok(());
         }
         close_first(&mut self.disk)?;
-        self.end = 0;
+        self.end = HEAD.len();
         self.open = true;
         Ok(())
     }
@@ -171,12 +186,13 @@ impl<D: Disk> Journal<D> {
     pub fn reserve(&mut self, batch: &Batch) -> io::Result<Room>
         ensures same { OnOk result (IsReady D.Disk.seen D.Disk.may_leave self.old
             → IsReady D.Disk.seen D.Disk.may_leave self.new
-            × (recovered (D.Disk.seen (disk_of self.new)) ≡ recovered (D.Disk.seen (disk_of self.old)))) }
+            × (file_entries (D.Disk.seen (disk_of self.new)) ≡ file_entries (D.Disk.seen (disk_of self.old)))) }
 
         // A crash at this moment leaves the entries as they were.
         ensures crash { IsReady D.Disk.seen D.Disk.may_leave self.old
             → (c : List ℕ) → D.Disk.may_leave (disk_of self.new) c
-            → recovered c ≡ recovered (D.Disk.seen (disk_of self.old)) }
+            → file_entries c ≡ file_entries (D.Disk.seen (disk_of self.old)) }
+        ensures sound { IsReady D.Disk.seen D.Disk.may_leave self.old → LeavesSound (D.Disk.may_leave (disk_of self.new)) }
         ensures open { OnOk result ((is_open self.old ≡ true) × (is_open self.new ≡ true)) }
         ensures closed { OnErr result (is_open self.new ≡ false) }
         ensures len { end_of self.new ≡ end_of self.old }
@@ -208,10 +224,11 @@ impl<D: Disk> Journal<D> {
     fn write(&mut self, batch: &mut Batch) -> io::Result<()>
         ensures acknowledged { OnOk result (IsReady D.Disk.seen D.Disk.may_leave self.old → IsBatch (batch_bytes batch.old)
             → IsReady D.Disk.seen D.Disk.may_leave self.new
-            × (recovered (D.Disk.seen (disk_of self.new)) ≡ recovered (D.Disk.seen (disk_of self.old)) ++ recovered (batch_bytes batch.old))) }
+            × (file_entries (D.Disk.seen (disk_of self.new)) ≡ file_entries (D.Disk.seen (disk_of self.old)) ++ recovered (batch_bytes batch.old))) }
         ensures crash { IsReady D.Disk.seen D.Disk.may_leave self.old → IsBatch (batch_bytes batch.old)
             → (c : List ℕ) → D.Disk.may_leave (disk_of self.new) c
-            → IsBeforeOrAfter (recovered (D.Disk.seen (disk_of self.old))) (recovered (batch_bytes batch.old)) c }
+            → IsBeforeOrAfter (file_entries (D.Disk.seen (disk_of self.old))) (recovered (batch_bytes batch.old)) c }
+        ensures sound { IsReady D.Disk.seen D.Disk.may_leave self.old → LeavesSound (D.Disk.may_leave (disk_of self.new)) }
         ensures open { OnOk result ((is_open self.old ≡ true) × (is_open self.new ≡ true)) }
         ensures closed { OnErr result (is_open self.new ≡ false) }
     {
@@ -225,10 +242,10 @@ impl<D: Disk> Journal<D> {
             return Ok(());
         }
         let size = batch.bytes.len();
-        batch.bytes.push(0)?;
-        stage(&mut self.disk, self.end, &batch.bytes[1..])?;
+        batch.seal()?;
+        stage(&mut self.disk, self.end, &batch.bytes)?;
         open_gate(&mut self.disk, self.end)?;
-        self.end += size;
+        self.end += size + FRAME;
         self.open = true;
         Ok(())
     }
@@ -248,57 +265,56 @@ fn read_all<D: Disk>(alloc: Global, disk: &mut D) -> io::Result<Vec<u8>>
     Ok(bytes)
 }
 
-/// Closes the gate behind the last block that counts, and has it reach the disk.
-fn shut<D: Disk>(disk: &mut D, end: usize) -> io::Result<()>
+/// Writes the head of a file that never had it whole, and a closed gate behind it, and has them reach
+/// the disk.
+fn create<D: Disk>(disk: &mut D) -> io::Result<()>
     requires usable { IsTrue (D.is_usable disk.old) }
-    ensures crash { (s : CanBeShut (D.seen disk.old) (D.may_leave disk.old) end) → (c : List ℕ)
-        → D.may_leave disk.new c → recovered c ≡ recovered (D.seen disk.old) }
-    ensures ok { OnOk result (CanBeShut (D.seen disk.old) (D.may_leave disk.old) end
-        → IsSettled (D.seen disk.new) (D.may_leave disk.new) end
-        × (recovered (D.seen disk.new) ≡ recovered (D.seen disk.old))) }
+    requires short { IsTrue (D.is_clean disk.old) → length (D.seen disk.old) ≤ 20 }
+    ensures crash { Only (D.seen disk.old) (D.may_leave disk.old) → IsTrue (D.is_clean disk.new)
+        → (c : List ℕ) → D.may_leave disk.new c → length c ≤ 20 }
+    ensures ok { OnOk result (IsTrue (D.is_clean disk.new)
+        → IsSettled (D.seen disk.new) (D.may_leave disk.new) 19
+        × (file_entries (D.seen disk.new) ≡ [])) }
     ensures clean { D.is_clean disk.new ≡ D.is_clean disk.old }
 {
-    disk.write_at(end, &[0])?;
+    disk.write_at(0, FIRST)?;
     disk.sync()?;
     Ok(())
 }
 
-/// Closes the gate behind the last block that counts, where it isn't closed.
-fn mend<D: Disk>(disk: &mut D, bytes: &[u8], end: usize) -> io::Result<()>
+/// Reads the entries of a file that a crash may have left, and where a journal goes on in it, and has
+/// what was read reach the disk. It may crash too.
+///
+/// # Errors
+///
+/// `Damaged` for a file that no crash leaves, and those of the disk. Nothing was written of a file
+/// that is damaged.
+pub fn recover<D: Disk>(alloc: Global, disk: &mut D) -> Result<(usize, Vec<Vec<u8>>), Unread>
     requires usable { IsTrue (D.is_usable disk.old) }
-    ensures crash { IsScanned bytes.now end → bytes.now ≡ D.seen disk.old → Only (D.seen disk.old) (D.may_leave disk.old)
-        → (c : List ℕ) → D.may_leave disk.new c → recovered c ≡ recovered (D.seen disk.old) }
-    ensures ok { OnOk result (IsScanned bytes.now end → bytes.now ≡ D.seen disk.old → Only (D.seen disk.old) (D.may_leave disk.old)
-        → IsSettled (D.seen disk.new) (D.may_leave disk.new) end
-        × (recovered (D.seen disk.new) ≡ recovered (D.seen disk.old))) }
-    ensures clean { D.is_clean disk.new ≡ D.is_clean disk.old }
-{
-    if end >= bytes.len() {
-        return shut(disk, end);
-    }
-    if bytes[end] == 1 {
-        return shut(disk, end);
-    }
-    Ok(())
-}
-
-/// Reads the pieces of a file that a crash may have left, and where a journal goes on in it. It may
-/// crash too.
-pub fn recover<D: Disk>(alloc: Global, disk: &mut D) -> io::Result<(usize, Vec<Vec<u8>>)>
-    requires usable { IsTrue (D.is_usable disk.old) }
-    ensures pieces { IfOk result (λ r. IsTrue (D.is_clean disk.new) → Only (D.seen disk.old) (D.may_leave disk.old)
-        → (map (λ v. v.items) r.1.items ≡ recovered (D.seen disk.old))
+    ensures entries { IfOk result (λ r. IsTrue (D.is_clean disk.new)
+        → (map (λ v. v.items) r.1.items ≡ file_entries (D.seen disk.old))
         × IsSettled (D.seen disk.new) (D.may_leave disk.new) r.0
-        × (recovered (D.seen disk.new) ≡ recovered (D.seen disk.old))) }
+        × (file_entries (D.seen disk.new) ≡ file_entries (D.seen disk.old))) }
 
-    // A crash at this moment leaves the same pieces.
+    // A damaged file is refused, and no other is refused as damaged.
+    ensures sound { OnOk result (IsTrue (D.is_clean disk.new) → IsSound (D.seen disk.old)) }
+    ensures damaged { IfErr result (λ why. IsDamage why → IsTrue (D.is_clean disk.new)
+        → ¬ IsSound (D.seen disk.old)) }
+    ensures same { IfErr result (λ why. IsDamage why → D.seen disk.new ≡ D.seen disk.old) }
+
+    // A crash at this moment leaves the same entries, and no damage where there was none.
     ensures crash { IsTrue (D.is_clean disk.new) → Only (D.seen disk.old) (D.may_leave disk.old)
-        → (c : List ℕ) → D.may_leave disk.new c → recovered c ≡ recovered (D.seen disk.old) }
+        → (c : List ℕ) → D.may_leave disk.new c
+        → (file_entries c ≡ file_entries (D.seen disk.old)) × (IsSound (D.seen disk.old) → IsSound c) }
 {
     let bytes = read_all(alloc, disk)?;
-    let (pieces, end) = read_pieces(alloc, &bytes)?;
-    mend(disk, &bytes, end)?;
-    Ok((end, pieces))
+    if bytes.len() <= HEAD.len() + 1 {
+        create(disk)?;
+        return Ok((HEAD.len(), Vec::new(alloc)));
+    }
+    let found = read_file(alloc, &bytes)?;
+    disk.sync()?;
+    Ok(found)
 }
 
 impl<D: Disk> Journal<D> {
@@ -314,5 +330,12 @@ impl<D: Disk> Journal<D> {
             end,
             open: true,
         }
+    }
+
+    /// The disk that it is kept on.
+    pub fn into_disk(self) -> D
+        ensures { result ≡ disk_of self }
+    {
+        self.disk
     }
 }

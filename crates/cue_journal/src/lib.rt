@@ -2,9 +2,11 @@
 #![tactic(auto)]
 
 mod blocks;
+mod frames;
 mod journal;
 mod pair;
 
 pub use blocks::{Batch, Unfit, read_pieces};
+pub use frames::{Unread, read_file};
 pub use journal::{Journal, Room, recover};
 pub use pair::Pair;

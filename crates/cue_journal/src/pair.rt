@@ -1,5 +1,6 @@
 ghost use Rattle.std.specs.Prelude.{◌≡◌, ◌++◌, ℕ, List, [], true, false, IfOk, OnOk, OnErr};
 ghost use Rattle.cue_journal.specs.Blocks.{recovered};
+ghost use Rattle.cue_journal.specs.Frames.{file_entries};
 ghost use Rattle.cue_journal.specs.Settled.{IsBatch};
 ghost use Rattle.cue_journal.specs.Batches.{batch_bytes};
 
@@ -20,7 +21,7 @@ pub struct Pair<D: Disk> {
 impl<D: Disk> Pair<D> {
     ghost use Rattle.cue_journal.specs.Journals.{IsReady, disk_of, end_of};
     ghost use Rattle.cue_journal.specs.Pairs.{growing_of, spare_of, is_whole, entries_of};
-    ghost use Rattle.cue_journal.specs.Pairs.{IsPairReady, MayLeave, IsCommitted, IsCondensed};
+    ghost use Rattle.cue_journal.specs.Pairs.{IsPairReady, MayLeave, IsCommitted, IsCondensed, LeaveSound};
     ghost use Rattle.cue_journal.specs.Journals.{IsEnough};
 
     /// Two journals that were recovered.
@@ -58,6 +59,7 @@ impl<D: Disk> Pair<D> {
             → (left : List (List ℕ)) → MayLeave D.Disk.may_leave self.new left
             → IsCommitted (entries_of D.Disk.seen self.old) (recovered (batch_bytes batch.old))
             left }
+        ensures sound { IsPairReady D.Disk.seen D.Disk.may_leave self.old → LeaveSound D.Disk.may_leave self.new }
         ensures whole { OnOk result ((is_whole self.old ≡ true) × (is_whole self.new ≡ true)) }
         ensures broken { OnErr result (is_whole self.new ≡ false) }
         ensures empty { batch_bytes batch.new ≡ [] }
@@ -82,13 +84,13 @@ impl<D: Disk> Pair<D> {
             → IsBatch (batch_bytes batch.old)
             → IsPairReady D.Disk.seen D.Disk.may_leave self.new
             × (entries_of D.Disk.seen self.new
-            ≡ recovered (D.Disk.seen (disk_of (spare_of self.old)))
+            ≡ file_entries (D.Disk.seen (disk_of (spare_of self.old)))
             ++ recovered (batch_bytes batch.old))) }
 
         // The two change places: the spare one has no entry then.
         ensures changed { IfOk result (λ room. IsEnough room
             → IsPairReady D.Disk.seen D.Disk.may_leave self.old
-            → recovered (D.Disk.seen (disk_of (spare_of self.new))) ≡ []) }
+            → file_entries (D.Disk.seen (disk_of (spare_of self.new))) ≡ []) }
         ensures kept { IfOk result (λ room. ¬ IsEnough room
             → IsPairReady D.Disk.seen D.Disk.may_leave self.old
             → IsPairReady D.Disk.seen D.Disk.may_leave self.new
@@ -99,9 +101,10 @@ impl<D: Disk> Pair<D> {
         ensures crash { IsPairReady D.Disk.seen D.Disk.may_leave self.old
             → IsBatch (batch_bytes batch.old)
             → (left : List (List ℕ)) → MayLeave D.Disk.may_leave self.new left
-            → IsCondensed (recovered (D.Disk.seen (disk_of (spare_of self.old))))
-            (recovered (D.Disk.seen (disk_of (growing_of self.old))))
+            → IsCondensed (file_entries (D.Disk.seen (disk_of (spare_of self.old))))
+            (file_entries (D.Disk.seen (disk_of (growing_of self.old))))
             (recovered (batch_bytes batch.old)) left }
+        ensures sound { IsPairReady D.Disk.seen D.Disk.may_leave self.old → LeaveSound D.Disk.may_leave self.new }
         ensures whole { OnOk result ((is_whole self.old ≡ true) × (is_whole self.new ≡ true)) }
         ensures broken { OnErr result (is_whole self.new ≡ false) }
         ensures empty { batch_bytes batch.new ≡ [] }

@@ -3,6 +3,7 @@ use Rattle.std.proofs.Common.{◌≡◌, ◌<◌, ◌^◌, ℕ, List, [], ◌∷
 use Rattle.cue_lattice.specs.World.{Piece, IsUnified, IsSound}
 use Rattle.cue_replica.specs.Language.{Table, language}
 use Rattle.cue_journal.specs.Blocks.{recovered}
+use Rattle.cue_journal.specs.Frames.{file_entries}
 use Rattle.cue_journal.specs.Settled.{IsBatch}
 use Rattle.cue_journal.specs.Batches.{batch_bytes}
 use Rattle.cue_journal.specs.Journals.{disk_of, IsEnough}
@@ -28,24 +29,24 @@ module _ {D : Type 0} (seen : D → List ℕ) (may_leave : D → List ℕ → Ty
       → length bytes < 2 ^ 64 → bytes ≡ language.written old.desk.board
       → (IsBatch (batch_bytes old.desk.batch) → IsBatch batch × (recovered batch ≡ recovered (batch_bytes old.desk.batch) ++ (1 ∷ bytes) ∷ []))
       → (left : List (List ℕ))
-      → (IsPairReady seen may_leave old.files → IsBatch batch → IsCondensed (recovered (seen (disk_of (spare_of old.files)))) (recovered (seen (disk_of (growing_of old.files)))) (recovered batch) left)
+      → (IsPairReady seen may_leave old.files → IsBatch batch → IsCondensed (file_entries (seen (disk_of (spare_of old.files)))) (file_entries (seen (disk_of (growing_of old.files)))) (recovered batch) left)
       → StandFor left pieces
   condensed_left old pieces bytes batch before empty fits written added left crash =
       let one = one_entry (batch_bytes old.desk.batch) batch bytes empty added in
       let own = own_state sound old.desk.board pieces bytes before.held written fits in
-      condensed_stands (recovered (seen (disk_of (spare_of old.files)))) (recovered (seen (disk_of (growing_of old.files)))) (recovered batch) left pieces bytes before.disk own.0 own.1 one.1 (crash before.ready one.0)
+      condensed_stands (file_entries (seen (disk_of (spare_of old.files)))) (file_entries (seen (disk_of (growing_of old.files)))) (recovered batch) left pieces bytes before.disk own.0 own.1 one.1 (crash before.ready one.0)
 
   pub condensed_site : (old new : Site D) (pieces : List Piece) (bytes batch : List ℕ) → IsConsistent seen may_leave old pieces pieces → batch_bytes old.desk.batch ≡ []
       → length bytes < 2 ^ 64 → bytes ≡ language.written old.desk.board
       → (IsBatch (batch_bytes old.desk.batch) → IsBatch batch × (recovered batch ≡ recovered (batch_bytes old.desk.batch) ++ (1 ∷ bytes) ∷ []))
-      → (IsPairReady seen may_leave old.files → IsBatch batch → IsPairReady seen may_leave new.files × (entries_of seen new.files ≡ recovered (seen (disk_of (spare_of old.files))) ++ recovered batch))
+      → (IsPairReady seen may_leave old.files → IsBatch batch → IsPairReady seen may_leave new.files × (entries_of seen new.files ≡ file_entries (seen (disk_of (spare_of old.files))) ++ recovered batch))
       → new.desk.board ≡ old.desk.board → batch_bytes new.desk.batch ≡ [] → IsConsistent seen may_leave new pieces pieces
   condensed_site old new pieces bytes batch before empty fits written added condensed table none =
       let one = one_entry (batch_bytes old.desk.batch) batch bytes empty added in
       let own = own_state sound old.desk.board pieces bytes before.held written fits in
       let done = condensed before.ready one.0 in
       let there : StandFor (entries_of seen new.files) pieces =
-      condensed_stands (recovered (seen (disk_of (spare_of old.files)))) (recovered (seen (disk_of (growing_of old.files)))) (recovered batch) (entries_of seen new.files) pieces bytes before.disk own.0 own.1 one.1 (inr (inr done.1)) in
+      condensed_stands (file_entries (seen (disk_of (spare_of old.files)))) (file_entries (seen (disk_of (growing_of old.files)))) (recovered batch) (entries_of seen new.files) pieces bytes before.disk own.0 own.1 one.1 (inr (inr done.1)) in
       record {
         ready = done.0;
         batch = no_batch (batch_bytes new.desk.batch) none;
@@ -71,7 +72,7 @@ module _ {D : Type 0} (seen : D → List ℕ) (may_leave : D → List ℕ → Ty
       → length bytes < 2 ^ 64 → bytes ≡ language.written old.desk.board
       → (IsBatch (batch_bytes old.desk.batch) → IsBatch batch × (recovered batch ≡ recovered (batch_bytes old.desk.batch) ++ (1 ∷ bytes) ∷ []))
       → IfOk r (λ room. IsEnough room → IsPairReady seen may_leave old.files → IsBatch batch
-      → IsPairReady seen may_leave new.files × (entries_of seen new.files ≡ recovered (seen (disk_of (spare_of old.files))) ++ recovered batch))
+      → IsPairReady seen may_leave new.files × (entries_of seen new.files ≡ file_entries (seen (disk_of (spare_of old.files))) ++ recovered batch))
       → IfOk r (λ room. ¬ IsEnough room → IsPairReady seen may_leave old.files → IsPairReady seen may_leave new.files × (entries_of seen new.files ≡ entries_of seen old.files))
       → new.desk.board ≡ old.desk.board → batch_bytes new.desk.batch ≡ [] → IsConsistent seen may_leave new pieces pieces
   condensed_or_kept (Ok Enough) fine old new pieces bytes batch before empty fits written added condensed kept table none =

@@ -1,6 +1,6 @@
 ghost use Rattle.std.specs.Prelude.{◌≡◌, ◌≢◌, ◌⊎◌};
 ghost use Rattle.cue_lattice.specs.declared.refusal.Kind.TheVariants as kinds;
-ghost use Rattle.cue_settings.specs.Stops.{IsDamage, IsSystem};
+ghost use Rattle.cue_settings.specs.Stops.{IsDamage, IsDamaged, IsSystem};
 
 use cue_lattice::{Kind, Refusal};
 use std::alloc::Global;
@@ -21,6 +21,12 @@ pub enum Stop {
     Busy(String),
     #[error("{0}: it can't be used, since something else has its name, or a sync of it failed")]
     Unusable(String),
+    /// A file of the journal is damaged, from this byte on.
+    #[error("{file}: damaged at byte {at}: stop every process that uses the folder, and put back copies of both files of the journal")]
+    Damaged {
+        file: String,
+        at: usize,
+    },
     #[error("out of memory")]
     OutOfMemory,
     #[error("the journal is damaged: entry refused, {0} {1} at {2}")]
@@ -44,6 +50,16 @@ impl Stop {
         match why.kind {
             Kind::Memory => Stop::OutOfMemory,
             kind => Stop::Journal(kind.number(), kind.name(), why.place),
+        }
+    }
+
+    /// A file that is damaged at a byte.
+    pub fn damaged(alloc: Global, file: &str, at: usize) -> Stop
+        ensures { (result ≡ Stop.OutOfMemory) ⊎ IsDamaged file.now at result }
+    {
+        match String::from_str(alloc, file) {
+            Ok(file) => Stop::Damaged { file, at },
+            Err(_) => Stop::OutOfMemory,
         }
     }
 

@@ -1,5 +1,5 @@
 use anyhow::Result;
-use cue_journal::{Journal, Pair, recover};
+use cue_journal::{Batch, Journal, Pair, Unread, read_pieces, recover};
 use cue_replica::Replica;
 use cue_service::{Site, SourceStanding, Standing, Token, add_entries, snapshot_in};
 use cue_settings::{Stop, Words, grows};
@@ -7,7 +7,9 @@ use log::{Log, info};
 use sqlite_disk::{Disk, Files};
 use sqlite_std_file::{FileFrom, OpenError, Unknown, open};
 use std::alloc::Global;
+use std::fs::Permissions;
 use std::io::{ErrorKind, Read};
+use std::os::unix::fs::{OpenOptionsExt, PermissionsExt};
 use std::random::RandomSource;
 use std::{fs, io};
 
@@ -94,8 +96,11 @@ fn recover_from(alloc: Global, path: &str, mut disk: File) -> Result<Recovered> 
     if !disk.may_be_used() {
         return Err(Stop::Unusable(String::from_str(alloc, path)?).into());
     }
-    let (end, entries) = on_file(alloc, "read", path, recover(alloc, &mut disk))?;
-    Ok(Recovered { disk, end, entries })
+    match recover(alloc, &mut disk) {
+        Ok((end, entries)) => Ok(Recovered { disk, end, entries }),
+        Err(Unread::Damaged(at)) => Err(Stop::damaged(alloc, path, at).into()),
+        Err(Unread::System(error)) => Err(Stop::system(alloc, "read", path, error).into()),
+    }
 }
 
 /// A table that takes in the entries of both files.
@@ -118,6 +123,109 @@ fn open_files(rt: &HostRuntime, path: &str) -> Result<Files<File>> {
     }
 }
 
+/// All bytes of a file; none where it is missing.
+fn bytes_of(rt: &HostRuntime, path: &str) -> Result<Vec<u8>> {
+    let alloc = rt.alloc();
+    let mut bytes = Vec::new(alloc);
+    match fs::File::open(rt, path) {
+        Ok(mut file) => {
+            on_file(alloc, "read", path, file.read_to_end(&mut bytes))?;
+        }
+        Err(error) if error.kind() == ErrorKind::NotFound => {}
+        Err(error) => return Err(Stop::system(alloc, "open", path, error).into()),
+    }
+    Ok(bytes)
+}
+
+/// Whether a file of a journal begins as those of version 0.1 did, which have no head: with a gate.
+fn is_old(rt: &HostRuntime, path: &str) -> Result<bool> {
+    let alloc = rt.alloc();
+    let mut first = [0xFFu8; 1];
+    match fs::File::open(rt, path) {
+        Ok(mut file) => {
+            let count = on_file(alloc, "read", path, file.read(&mut first))?;
+            Ok(count == 1 && first[0] <= 1)
+        }
+        Err(error) if error.kind() == ErrorKind::NotFound => Ok(false),
+        Err(error) => Err(Stop::system(alloc, "open", path, error).into()),
+    }
+}
+
+/// Gives a file another name, and has that reach the disk.
+fn rename(rt: &HostRuntime, folder: &str, from: &str, to: &str) -> Result<()> {
+    let alloc = rt.alloc();
+    on_file(alloc, "rename", from, fs::rename(rt, from, to))?;
+    let above = on_file(alloc, "open", folder, fs::File::open(rt, folder))?;
+    on_file(alloc, "sync", folder, above.sync_all())
+}
+
+/// Sets a file of version 0.1 aside, under its name with `.old` behind it.
+fn set_aside(rt: &HostRuntime, folder: &str, path: &str) -> Result<()> {
+    if is_old(rt, path)? {
+        let old = format!(in rt.alloc(); "{path}.old")?;
+        rename(rt, folder, path, old.as_str())?;
+    }
+    Ok(())
+}
+
+/// Sets both files of version 0.1 aside, while no other process has them open.
+fn set_old_aside(rt: &HostRuntime, folder: &str, path: &str, beside: &str) -> Result<()> {
+    if is_old(rt, path)? || is_old(rt, beside)? {
+        let _held = open_files(rt, path)?;
+        set_aside(rt, folder, path)?;
+        set_aside(rt, folder, beside)?;
+    }
+    Ok(())
+}
+
+/// Takes in the entries of a file of version 0.1 that was set aside, has them reach the disk, and
+/// then calls the file `.converted`. Once more it brings nothing new.
+fn bring_over(
+    rt: &HostRuntime,
+    folder: &str,
+    path: &str,
+    files: &mut Pair<File>,
+    board: &mut Replica,
+) -> Result<()> {
+    let alloc = rt.alloc();
+    let old = format!(in alloc; "{path}.old")?;
+    let bytes = bytes_of(rt, old.as_str())?;
+    if bytes.is_empty() {
+        return Ok(());
+    }
+    let (entries, _) = read_pieces(alloc, &bytes)?;
+    add_entries(board, &entries).map_err(Stop::of_entry)?;
+    let mut batch = Batch::new(alloc);
+    for entry in &entries {
+        if let Some((first, rest)) = entry.split_first() {
+            if batch.push(*first, rest).is_err() {
+                return Err(Stop::OutOfMemory.into());
+            }
+        }
+    }
+    on_file(alloc, "write", path, files.commit(&mut batch))?;
+    let converted = format!(in alloc; "{path}.converted")?;
+    rename(rt, folder, old.as_str(), converted.as_str())
+}
+
+/// Has this user alone read and write a file. A missing one is made.
+fn make_private(rt: &HostRuntime, path: &str) -> Result<()> {
+    let alloc = rt.alloc();
+    let mode = Permissions::from_mode(0o600);
+    let made = fs::OpenOptions::new()
+        .write(true)
+        .create_new(true)
+        .mode(0o600)
+        .open(rt, path);
+    match made {
+        Ok(_file) => Ok(()),
+        Err(error) if error.kind() == ErrorKind::AlreadyExists => {
+            on_file(alloc, "chmod", path, fs::set_permissions(rt, path, mode))
+        }
+        Err(error) => Err(Stop::system(alloc, "open", path, error).into()),
+    }
+}
+
 /// The site that the folder keeps, or a new one.
 pub fn open_site<L: Log>(
     rt: &HostRuntime,
@@ -129,6 +237,9 @@ pub fn open_site<L: Log>(
     make_folders(rt, words.data)?;
     let path = format!(in alloc; "{}/journal", words.data)?;
     let beside = format!(in alloc; "{}/journal-wal", words.data)?;
+    set_old_aside(rt, words.data, path.as_str(), beside.as_str())?;
+    make_private(rt, path.as_str())?;
+    make_private(rt, beside.as_str())?;
     let Files {
         log: one,
         db: other,
@@ -140,13 +251,15 @@ pub fn open_site<L: Log>(
     } else {
         (other, one)
     };
-    let board = board_of(alloc, &spare.entries, &growing.entries)?;
+    let mut board = board_of(alloc, &spare.entries, &growing.entries)?;
     info!(log; "{} entries of {} bytes", spare.entries.len() + growing.entries.len(), board.state_size());
     let snapshot = snapshot_in(&growing.entries);
-    let files = Pair::new(
+    let mut files = Pair::new(
         Journal::new(growing.disk, growing.end),
         Journal::new(spare.disk, spare.end),
     );
+    bring_over(rt, words.data, path.as_str(), &mut files, &mut board)?;
+    bring_over(rt, words.data, beside.as_str(), &mut files, &mut board)?;
     let standing = standing(alloc, words)?;
     Ok(Site::new(
         alloc,

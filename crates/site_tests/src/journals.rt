@@ -1,6 +1,6 @@
 //! Journals over disks in memory, also over one that fails at a call.
 
-use cue_journal::{Batch, Journal, Pair, Room, Unfit, read_pieces, recover};
+use cue_journal::{Batch, Journal, Pair, Room, Unfit, Unread, read_file, read_pieces, recover};
 use sqlite_disk::{Disk, Fuse, Memory};
 use std::alloc::Global;
 use std::io;
@@ -30,22 +30,77 @@ fn a_batch_is_read_back(rt: HostRuntime) -> Result<(), Fail> {
     Ok(())
 }
 
+/// A new journal over a disk.
+pub(crate) fn journal_on<D: Disk>(alloc: Global, mut disk: D) -> io::Result<Journal<D>> {
+    if !disk.may_be_used() {
+        return Err(io::ErrorKind::Other.into());
+    }
+    match recover(alloc, &mut disk) {
+        Ok((end, _)) => Ok(Journal::new(disk, end)),
+        Err(Unread::System(error)) => Err(error),
+        Err(Unread::Damaged(_)) => Err(io::ErrorKind::InvalidData.into()),
+    }
+}
+
 #[test]
 fn a_journal_is_recovered(rt: HostRuntime) -> Result<(), Fail> {
-    let mut journal = Journal::new(Memory::new(rt.alloc()), 0);
+    let mut journal = journal_on(rt.alloc(), Memory::new(rt.alloc()))?;
+    assert_eq!(rt; journal.len(), 19);
     let mut batch = batch_of(rt.alloc(), 0, b"one")?;
     batch.push(1, b"two")?;
     journal.commit(&mut batch)?;
-    assert_eq!(rt; journal.len(), 18);
-    journal.clear()?;
-    assert_eq!(rt; journal.len(), 0);
-    assert!(rt; journal.is_open());
-    let mut disk = Memory::new(rt.alloc());
-    disk.write_at(0, b"\x01\0\0\0\x04\0one\x01\0\0")?;
+    assert_eq!(rt; journal.len(), 19 + 17 + 18);
+    let mut disk = journal.into_disk();
+    assert_eq!(rt;
+        disk.bytes().get(..19),
+        Some(b"cuestore journal 2\n".as_slice())
+    );
     let (end, entries) = recover(rt.alloc(), &mut disk)?;
-    assert_eq!(rt; end, 9);
-    assert_eq!(rt; entries.len(), 1);
-    assert_eq!(rt; disk.bytes().get(9), Some(&0));
+    assert_eq!(rt; end, 54);
+    assert_eq!(rt; entries.len(), 2);
+    let mut journal = Journal::new(disk, end);
+    journal.clear()?;
+    assert_eq!(rt; journal.len(), 19);
+    assert!(rt; journal.is_open());
+    Ok(())
+}
+
+/// The bytes of a journal of six entries, one batch each.
+fn six(alloc: Global) -> Result<Vec<u8>, Fail> {
+    let mut journal = journal_on(alloc, Memory::new(alloc))?;
+    for number in 0..6u8 {
+        let mut batch = batch_of(alloc, number % 2, &[b'a', b':', b' ', b'0' + number])?;
+        journal.commit(&mut batch)?;
+    }
+    Ok(Vec::from_slice(alloc, journal.into_disk().bytes())?)
+}
+
+#[test]
+fn each_bit_that_turns_is_reported_or_changes_nothing(rt: HostRuntime) -> Result<(), Fail> {
+    let mut bytes = six(rt.alloc())?;
+    let (end, entries) = read_file(rt.alloc(), &bytes)?;
+    assert_eq!(rt; entries.len(), 6);
+    assert_eq!(rt; end + 1, bytes.len());
+    let mut reported = 0usize;
+    for at in 0..bytes.len() {
+        for bit in 0..8u32 {
+            bytes[at] ^= 1 << bit;
+            match read_file(rt.alloc(), &bytes) {
+                Ok((same_end, same)) => {
+                    assert_eq!(rt; same_end, end);
+                    assert!(rt; same == entries);
+                }
+                Err(Unread::Damaged(place)) => {
+                    assert!(rt; place <= at);
+                    reported += 1;
+                }
+                Err(Unread::System(error)) => return Err(error.into()),
+            }
+            bytes[at] ^= 1 << bit;
+        }
+    }
+    // All but the bits of the six gates and of the closed one behind them.
+    assert_eq!(rt; reported, 8 * (bytes.len() - 7));
     Ok(())
 }
 
@@ -54,7 +109,7 @@ fn a_journal_is_recovered(rt: HostRuntime) -> Result<(), Fail> {
 fn condensed(alloc: Global, calls: u64) -> io::Result<usize> {
     let one = Fuse::new(Memory::new(alloc), calls);
     let other = Fuse::new(Memory::new(alloc), calls);
-    let mut pair = Pair::new(Journal::new(one, 0), Journal::new(other, 0));
+    let mut pair = Pair::new(journal_on(alloc, one)?, journal_on(alloc, other)?);
     let mut batch = Batch::new(alloc);
     if batch.push(0, b"one").is_err() {
         return Err(io::ErrorKind::OutOfMemory.into());
@@ -71,8 +126,8 @@ fn condensed(alloc: Global, calls: u64) -> io::Result<usize> {
 
 #[test]
 fn a_snapshot_takes_the_place(rt: HostRuntime) -> Result<(), Fail> {
-    assert_eq!(rt; condensed(rt.alloc(), 100)?, 9);
-    for calls in 0..6u64 {
+    assert_eq!(rt; condensed(rt.alloc(), 100)?, 19 + 17 + 9);
+    for calls in 0..10u64 {
         assert!(rt; condensed(rt.alloc(), calls).is_err());
     }
     Ok(())

@@ -1,8 +1,9 @@
 //! Sites over disks in memory, asked by requests that are made here.
 
+use crate::journals::journal_on;
 use bytes::{Buf, Bytes};
 use cue_http::{Gathers, News};
-use cue_journal::{Journal, Pair, Unfit};
+use cue_journal::{Pair, Unfit};
 use cue_replica::Replica;
 use cue_service::{
     Desk, Shown, Site, SourceStanding, Standing, Token, add_entries, is_hidden, snapshot_in,
@@ -22,8 +23,8 @@ pub fn new_site(alloc: Global, word: Option<Token>) -> Result<Site<Memory>, Fail
     let mut sources = Vec::new(alloc);
     sources.push(SourceStanding::new(String::from_str(alloc, "peer")?))?;
     let files = Pair::new(
-        Journal::new(Memory::new(alloc), 0),
-        Journal::new(Memory::new(alloc), 0),
+        journal_on(alloc, Memory::new(alloc))?,
+        journal_on(alloc, Memory::new(alloc))?,
     );
     let standing = Standing::new(alloc, sources);
     Ok(Site::new(alloc, files, 0, Replica::new(alloc), word, standing, RUN))
@@ -99,13 +100,13 @@ fn a_known_piece_changes_nothing(rt: HostRuntime) -> Result<(), Fail> {
 }
 
 /// A site whose journal begins with a snapshot of so many bytes.
-fn site_behind(alloc: Global, snapshot: usize) -> Site<Memory> {
+fn site_behind(alloc: Global, snapshot: usize) -> Result<Site<Memory>, Fail> {
     let files = Pair::new(
-        Journal::new(Memory::new(alloc), 0),
-        Journal::new(Memory::new(alloc), 0),
+        journal_on(alloc, Memory::new(alloc))?,
+        journal_on(alloc, Memory::new(alloc))?,
     );
     let standing = Standing::new(alloc, Vec::new(alloc));
-    Site::new(
+    Ok(Site::new(
         alloc,
         files,
         snapshot,
@@ -113,7 +114,7 @@ fn site_behind(alloc: Global, snapshot: usize) -> Site<Memory> {
         None,
         standing,
         RUN,
-    )
+    ))
 }
 
 /// Sends a site a text of 800,000 bytes, most of which are a comment.
@@ -132,7 +133,7 @@ fn post_long(alloc: Global, site: &mut Site<Memory>, text: &[u8]) -> Result<(), 
 /// Whether a site whose journal begins with a snapshot of so many bytes writes one once it has more
 /// than 1 MiB.
 fn condenses(alloc: Global, snapshot: usize) -> Result<bool, Fail> {
-    let mut site = site_behind(alloc, snapshot);
+    let mut site = site_behind(alloc, snapshot)?;
     post_long(alloc, &mut site, b"port: 443 // 1")?;
     post_long(alloc, &mut site, b"port: 443 // 2")?;
     let stands = site.settle();
