@@ -1,0 +1,89 @@
+ghost use Rattle.std.specs.Prelude.{◌≡◌};
+
+use crate::doors::Doors;
+use bytes::Bytes;
+use cue_http::{Gathers, News};
+use http::{HeaderValue, Request, StatusCode};
+use http_server::{Response, Settle};
+use log::Log;
+use std::alloc::AllocError;
+use std::io;
+
+/// A service behind doors.
+#[derive(Drop)]
+pub struct Guarded<S> {
+    pub(crate) doors: Doors,
+    pub(crate) inner: S,
+}
+
+impl<S> Guarded<S> {
+    /// This service behind these doors.
+    pub fn new(doors: Doors, inner: S) -> Guarded<S>
+        ensures doors { result.doors ≡ doors }
+        ensures inner { result.inner ≡ inner }
+    {
+        Guarded { doors, inner }
+    }
+}
+
+impl<S: Settle> Settle for Guarded<S> {
+    ghost use Rattle.cue_doors.specs.Guards.{Guards};
+
+    ghost answers = { Guards S.answers };
+
+    ghost settles = { λ old verdict new.
+        (new.doors ≡ old.doors) × S.settles old.inner verdict new.inner };
+
+    fn call(
+        &mut self,
+        request: &Request<Bytes>,
+        response: &mut Response,
+    ) -> Result<(), AllocError> {
+        match self.doors.bar(request) {
+            None => self.inner.call(request, response),
+            Some(bar) => {
+                response.status = StatusCode::FORBIDDEN;
+                response.body.push(Bytes::from_static(bar.line()))
+            }
+        }
+    }
+
+    fn settle(&mut self) -> bool {
+        self.inner.settle()
+    }
+}
+
+/// What peers bring, and what the loop asks, goes to the service behind.
+impl<S: Gathers> Gathers for Guarded<S> {
+    fn pulled(&mut self, bytes: &[u8]) -> bool {
+        self.inner.pulled(bytes)
+    }
+
+    fn pulled_pieces(&mut self, bytes: &[u8]) -> bool {
+        self.inner.pulled_pieces(bytes)
+    }
+
+    fn patience(&self, request: &Request<Bytes>, response: &Response) -> Option<u64> {
+        self.inner.patience(request, response)
+    }
+
+    fn edition(&mut self) -> u64 {
+        self.inner.edition()
+    }
+
+    fn tag(&mut self) -> Option<HeaderValue> {
+        self.inner.tag()
+    }
+
+    fn fault(&mut self) -> io::Error {
+        self.inner.fault()
+    }
+
+    fn hear(&mut self, news: News) {
+        self.inner.hear(news);
+    }
+
+    fn report<L: Log>(&mut self, log: &L) {
+        self.inner.report(log);
+    }
+}
