@@ -2,9 +2,12 @@ ghost use Rattle.std.specs.Prelude.{◌≡◌};
 
 use crate::doors::Doors;
 use bytes::Bytes;
-use http::{Request, StatusCode};
+use cue_http::{Gathers, News};
+use http::{HeaderValue, Request, StatusCode};
 use http_server::{Response, Settle};
+use log::Log;
 use std::alloc::AllocError;
+use std::io;
 
 /// A service behind doors.
 #[derive(Drop)]
@@ -47,5 +50,40 @@ impl<S: Settle> Settle for Guarded<S> {
 
     fn settle(&mut self) -> bool {
         self.inner.settle()
+    }
+}
+
+/// What peers bring, and what the loop asks, goes to the service behind.
+impl<S: Gathers> Gathers for Guarded<S> {
+    fn pulled(&mut self, bytes: &[u8]) -> bool {
+        self.inner.pulled(bytes)
+    }
+
+    fn pulled_pieces(&mut self, bytes: &[u8]) -> bool {
+        self.inner.pulled_pieces(bytes)
+    }
+
+    fn patience(&self, request: &Request<Bytes>, response: &Response) -> Option<u64> {
+        self.inner.patience(request, response)
+    }
+
+    fn edition(&mut self) -> u64 {
+        self.inner.edition()
+    }
+
+    fn tag(&mut self) -> Option<HeaderValue> {
+        self.inner.tag()
+    }
+
+    fn fault(&mut self) -> io::Error {
+        self.inner.fault()
+    }
+
+    fn hear(&mut self, news: News) {
+        self.inner.hear(news);
+    }
+
+    fn report<L: Log>(&mut self, log: &L) {
+        self.inner.report(log);
     }
 }

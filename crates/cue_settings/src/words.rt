@@ -5,6 +5,7 @@ use crate::stop::Stop;
 use anyhow::Result;
 use clap::builder::ValueParser;
 use clap::{Arg, ArgAction, ArgMatches, Command, value_parser};
+use cue_doors::Doors;
 use cue_http::{Bounds, Source};
 use http_server::Config;
 use std::alloc::{AllocError, Global};
@@ -24,6 +25,8 @@ pub struct Words<'a> {
     pub listen: &'a str,
     pub peers: Vec<&'a str>,
     pub token_file: Option<&'a str>,
+    /// Host names of the site, beside its addresses and those of loopback.
+    pub hosts: Vec<&'a str>,
     /// A peer is asked each so many seconds.
     pub every: u64,
     /// So many connections at most.
@@ -73,6 +76,13 @@ pub fn command<'a>(alloc: Global) -> Result<Command<'a>, AllocError> {
             "FILE",
             "The word that each POST has to bear",
         ))?
+        .arg(value(
+            alloc,
+            "host",
+            "NAME",
+            "A host name that requests may name, without a port; again for more",
+        )
+        .action(ArgAction::Append))?
         .arg(
             value(alloc, "max-connections", "N", "The most connections")
                 .value_parser(value_parser!(u64).range(1..1_000_000))
@@ -100,19 +110,29 @@ pub fn command<'a>(alloc: Global) -> Result<Command<'a>, AllocError> {
         )
 }
 
-/// What was found of them.
-pub fn words_of<'a>(alloc: Global, matches: &ArgMatches<'a>) -> Result<Words<'a>> {
-    let mut peers = Vec::new(alloc);
-    if let Some(given) = matches.get_strs("peer") {
-        for peer in given {
-            peers.push(*peer)?;
+/// The values of an option that may be given more than once.
+fn all_of<'a>(
+    alloc: Global,
+    matches: &ArgMatches<'a>,
+    name: &str,
+) -> Result<Vec<&'a str>, AllocError> {
+    let mut all = Vec::new(alloc);
+    if let Some(given) = matches.get_strs(name) {
+        for value in given {
+            all.push(*value)?;
         }
     }
+    Ok(all)
+}
+
+/// What was found of them.
+pub fn words_of<'a>(alloc: Global, matches: &ArgMatches<'a>) -> Result<Words<'a>> {
     Ok(Words {
         data: matches.get_str("data").unwrap_or("."),
         listen: matches.get_str("listen").unwrap_or("127.0.0.1:8420"),
-        peers,
+        peers: all_of(alloc, matches, "peer")?,
         token_file: matches.get_str("token-file"),
+        hosts: all_of(alloc, matches, "host")?,
         every: matches.get_one::<u64>("every").unwrap_or(2),
         most: matches.get_one::<u64>("max-connections").unwrap_or(1000),
         waiting: matches.get_one::<u64>("max-waiting").unwrap_or(500),
@@ -135,6 +155,30 @@ impl<'a> Words<'a> {
             Some(address) => Ok(address),
             None => Err(Stop::Listen.into()),
         }
+    }
+
+    /// The hosts that requests may name at a site that listens on this address: the address, the
+    /// name that it was given by, those of loopback, and those that were given. Where the site
+    /// listens on all addresses, requests may name each.
+    pub fn doors(&self, alloc: Global, listen: SocketAddr) -> Result<Doors> {
+        let mut hosts = Vec::new(alloc);
+        for host in ["localhost", "127.0.0.1", "[::1]"] {
+            hosts.push(String::from_str(alloc, host)?)?;
+        }
+        hosts.push(match listen {
+            SocketAddr::V4(address) => format!(in alloc; "{}", address.ip())?,
+            SocketAddr::V6(address) => format!(in alloc; "[{}]", address.ip())?,
+        })?;
+        if let Some((name, _)) = self.listen.rsplit_once(':') {
+            hosts.push(String::from_str(alloc, name)?)?;
+        }
+        for host in &self.hosts {
+            hosts.push(String::from_str(alloc, host)?)?;
+        }
+        Ok(Doors {
+            hosts,
+            any_address: listen.ip().is_unspecified(),
+        })
     }
 
     /// The addresses of the peers.

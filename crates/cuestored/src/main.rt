@@ -7,6 +7,7 @@ mod files;
 use crate::files::{open_site, token_in};
 use anyhow::Result;
 use clap::error::Error;
+use cue_doors::Guarded;
 use cue_http::{Ended, serve};
 use cue_service::{Shown, Token};
 use cue_settings::{Stop, Words, command, may_listen, words_of};
@@ -41,13 +42,15 @@ fn serve_at<L: Log>(
 ) -> Result<()> {
     let sources = words.sources(rt)?;
     let site = open_site(rt, log, words, token)?;
+    let doors = words.doors(rt.alloc(), listen)?;
     let listener = match TcpListener::bind(rt, listen) {
         Ok(listener) => listener,
         Err(error) => return Err(Stop::system(rt.alloc(), "listen on", words.listen, error).into()),
     };
     let address = listener.local_addr()?;
     info!(log; "listening on http://{address}");
-    match serve(rt, log, listener, words.bounds(), &sources, site, u64::MAX) {
+    let guarded = Guarded::new(doors, site);
+    match serve(rt, log, listener, words.bounds(), &sources, guarded, u64::MAX) {
         Ok(()) => Ok(()),
         Err(ended) => Err(stop_of(rt, words, ended)?.into()),
     }

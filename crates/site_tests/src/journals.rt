@@ -31,7 +31,7 @@ fn a_batch_is_read_back(rt: HostRuntime) -> Result<(), Fail> {
 }
 
 /// A new journal over a disk.
-pub(crate) fn journal_on<D: Disk>(alloc: Global, mut disk: D) -> io::Result<Journal<D>> {
+pub(crate) fn journal_on<D: Disk + Drop>(alloc: Global, mut disk: D) -> io::Result<Journal<D>> {
     if !disk.may_be_used() {
         return Err(io::ErrorKind::Other.into());
     }
