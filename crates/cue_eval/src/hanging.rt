@@ -154,11 +154,7 @@ pub(crate) fn put_behind(
 }
 
 /// Puts a table behind the labels of a chain, the innermost first.
-fn nest(
-    alloc: Global,
-    chain: &[Label],
-    table: &mut Table<Row>,
-) -> Result<(), Memory>
+fn nest(alloc: Global, chain: &[Label], table: &mut Table<Row>) -> Result<(), Memory>
     requires form { IsTable Refuses IsRow table.old }
     requires depth { tree_depth table.old + length chain.now ≤ step_limit }
     ensures form { OnOk result (IsTable Refuses IsRow table.new) }
