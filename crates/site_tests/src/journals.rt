@@ -42,6 +42,14 @@ pub(crate) fn journal_on<D: Disk + Drop>(alloc: Global, mut disk: D) -> io::Resu
     }
 }
 
+/// The entries of a file, and where a journal goes on in it. A file without a head is damaged.
+fn entries_in(alloc: Global, bytes: &[u8]) -> Result<(usize, Vec<Vec<u8>>), Unread> {
+    if bytes.len() <= 20 {
+        return Err(Unread::Damaged(0));
+    }
+    read_file(alloc, bytes)
+}
+
 #[test]
 fn a_journal_is_recovered(rt: HostRuntime) -> Result<(), Fail> {
     let mut journal = journal_on(rt.alloc(), Memory::new(rt.alloc()))?;
@@ -50,15 +58,16 @@ fn a_journal_is_recovered(rt: HostRuntime) -> Result<(), Fail> {
     batch.push(1, b"two")?;
     journal.commit(&mut batch)?;
     assert_eq!(rt; journal.len(), 19 + 17 + 18);
-    let mut disk = journal.into_disk();
+    let disk = journal.into_disk();
     assert_eq!(rt;
         disk.bytes().get(..19),
         Some(b"cuestore journal 2\n".as_slice())
     );
-    let (end, entries) = recover(rt.alloc(), &mut disk)?;
+    let (end, entries) = entries_in(rt.alloc(), disk.bytes())?;
     assert_eq!(rt; end, 54);
     assert_eq!(rt; entries.len(), 2);
-    let mut journal = Journal::new(disk, end);
+    let mut journal = journal_on(rt.alloc(), disk)?;
+    assert_eq!(rt; journal.len(), 54);
     journal.clear()?;
     assert_eq!(rt; journal.len(), 19);
     assert!(rt; journal.is_open());
@@ -78,14 +87,14 @@ fn six(alloc: Global) -> Result<Vec<u8>, Fail> {
 #[test]
 fn each_bit_that_turns_is_reported_or_changes_nothing(rt: HostRuntime) -> Result<(), Fail> {
     let mut bytes = six(rt.alloc())?;
-    let (end, entries) = read_file(rt.alloc(), &bytes)?;
+    let (end, entries) = entries_in(rt.alloc(), &bytes)?;
     assert_eq!(rt; entries.len(), 6);
     assert_eq!(rt; end + 1, bytes.len());
     let mut reported = 0usize;
     for at in 0..bytes.len() {
         for bit in 0..8u32 {
             bytes[at] ^= 1 << bit;
-            match read_file(rt.alloc(), &bytes) {
+            match entries_in(rt.alloc(), &bytes) {
                 Ok((same_end, same)) => {
                     assert_eq!(rt; same_end, end);
                     assert!(rt; same == entries);
