@@ -137,7 +137,7 @@ fn bytes_of(rt: &HostRuntime, path: &str) -> Result<Vec<u8>> {
     Ok(bytes)
 }
 
-/// Whether a file of a journal begins as those of version 0.1 did, which have no head: with a gate.
+/// Whether a file of a journal begins as those of older builds did, which have no head: with a gate.
 fn is_old(rt: &HostRuntime, path: &str) -> Result<bool> {
     let alloc = rt.alloc();
     let mut first = [0xFFu8; 1];
@@ -159,7 +159,7 @@ fn rename(rt: &HostRuntime, folder: &str, from: &str, to: &str) -> Result<()> {
     on_file(alloc, "sync", folder, above.sync_all())
 }
 
-/// Sets a file of version 0.1 aside, under its name with `.old` behind it.
+/// Sets a file of an older build aside, under its name with `.old` behind it.
 fn set_aside(rt: &HostRuntime, folder: &str, path: &str) -> Result<()> {
     if is_old(rt, path)? {
         let old = format!(in rt.alloc(); "{path}.old")?;
@@ -168,7 +168,7 @@ fn set_aside(rt: &HostRuntime, folder: &str, path: &str) -> Result<()> {
     Ok(())
 }
 
-/// Sets both files of version 0.1 aside, while no other process has them open.
+/// Sets both files of an older build aside, while no other process has them open.
 fn set_old_aside(rt: &HostRuntime, folder: &str, path: &str, beside: &str) -> Result<()> {
     if is_old(rt, path)? || is_old(rt, beside)? {
         let _held = open_files(rt, path)?;
@@ -178,7 +178,7 @@ fn set_old_aside(rt: &HostRuntime, folder: &str, path: &str, beside: &str) -> Re
     Ok(())
 }
 
-/// Takes in the entries of a file of version 0.1 that was set aside, has them reach the disk, and
+/// Takes in the entries of a file of an older build that was set aside, has them reach the disk, and
 /// then calls the file `.converted`. Once more it brings nothing new.
 fn bring_over(
     rt: &HostRuntime,

@@ -50,7 +50,15 @@ fn serve_at<L: Log>(
     let address = listener.local_addr()?;
     info!(log; "listening on http://{address}");
     let guarded = Guarded::new(doors, site);
-    match serve(rt, log, listener, words.bounds(), &sources, guarded, u64::MAX) {
+    match serve(
+        rt,
+        log,
+        listener,
+        words.bounds(),
+        &sources,
+        guarded,
+        u64::MAX,
+    ) {
         Ok(()) => Ok(()),
         Err(ended) => Err(stop_of(rt, words, ended)?.into()),
     }
