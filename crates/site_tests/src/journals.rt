@@ -89,7 +89,7 @@ fn each_bit_that_turns_is_reported_or_changes_nothing(rt: HostRuntime) -> Result
     let mut bytes = six(rt.alloc())?;
     let (end, entries) = entries_in(rt.alloc(), &bytes)?;
     assert_eq!(rt; entries.len(), 6);
-    assert_eq!(rt; end + 1, bytes.len());
+    assert_eq!(rt; end.saturating_add(1), bytes.len());
     let mut reported = 0usize;
     for at in 0..bytes.len() {
         for bit in 0..8u32 {
