@@ -93,7 +93,7 @@ fn each_bit_that_turns_is_reported_or_changes_nothing(rt: HostRuntime) -> Result
     let mut reported = 0usize;
     for at in 0..bytes.len() {
         for bit in 0..8u32 {
-            bytes[at] ^= 1 << bit;
+            turn(&mut bytes, at, bit);
             match entries_in(rt.alloc(), &bytes) {
                 Ok((same_end, same)) => {
                     assert_eq!(rt; same_end, end);
@@ -101,16 +101,23 @@ fn each_bit_that_turns_is_reported_or_changes_nothing(rt: HostRuntime) -> Result
                 }
                 Err(Unread::Damaged(place)) => {
                     assert!(rt; place <= at);
-                    reported += 1;
+                    reported = reported.saturating_add(1);
                 }
                 Err(Unread::System(error)) => return Err(error.into()),
             }
-            bytes[at] ^= 1 << bit;
+            turn(&mut bytes, at, bit);
         }
     }
     // All but the bits of the six gates and of the closed one behind them.
-    assert_eq!(rt; reported, 8 * (bytes.len() - 7));
+    assert_eq!(rt; reported, bytes.len().saturating_sub(7).saturating_mul(8));
     Ok(())
+}
+
+/// Turns a bit of the byte there, if there is one.
+fn turn(bytes: &mut [u8], at: usize, bit: u32) {
+    if let Some(byte) = bytes.get_mut(at) {
+        *byte ^= 1u8.wrapping_shl(bit);
+    }
 }
 
 /// Two entries, and then a snapshot in their place, over disks that fail behind so many calls: how
