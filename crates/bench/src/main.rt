@@ -20,13 +20,13 @@ use anyhow::Error;
 use std::env;
 
 /// What came of the part that the words name.
-fn asked(rt: &HostRuntime, part: &str, words: &[String]) -> Result<String, Error> {
+fn run_part(rt: &HostRuntime, part: &str, words: &[String]) -> Result<String, Error> {
     let alloc = rt.alloc();
     match part {
-        "sets" => sets::asked(alloc, words),
-        "unify" => unify::asked(alloc, words),
-        "tables" => tables::asked(alloc, words),
-        "scope" | "eval" => texts::asked(rt, part, words),
+        "sets" => sets::run_part(alloc, words),
+        "unify" => unify::run_part(alloc, words),
+        "tables" => tables::run_part(alloc, words),
+        "scope" | "eval" => texts::run_part(rt, part, words),
         _ => Err(Fault::Usage.into()),
     }
 }
@@ -38,7 +38,7 @@ fn main(rt: HostRuntime) -> Result<(), Error> {
         words.push(word)?;
     }
     if let [_, part, given @ ..] = words.as_slice() {
-        println!(rt; "{}", asked(&rt, part.as_str(), given)?)?;
+        println!(rt; "{}", run_part(&rt, part.as_str(), given)?)?;
         return Ok(());
     }
     println!(rt; "{}", sets::samples(alloc)?)?;

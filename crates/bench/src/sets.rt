@@ -97,7 +97,7 @@ fn count_named(alloc: Global, name: &str, pieces: u32, rounds: u32) -> Result<us
 }
 
 /// How many pieces the answer has that the words ask for.
-pub fn asked(alloc: Global, words: &[String]) -> Result<String, Error> {
+pub fn run_part(alloc: Global, words: &[String]) -> Result<String, Error> {
     if words.len() < 3 {
         return Err(Fault::Usage.into());
     }

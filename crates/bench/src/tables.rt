@@ -18,7 +18,7 @@ use cue_codec::{decode, encode};
 use cue_lattice::{Memory, Narrow, Text};
 use cue_print::print;
 use cue_report::{conflicts, export, incomplete};
-use cue_row::{Labels, Level};
+use cue_row::{LabelSet, Level};
 use cue_scalars::ScalarSet;
 use cue_sets::{IntSet, TextSet};
 use cue_table::{Draft, Path, Place, Row, Step, Table};
@@ -195,14 +195,14 @@ fn texts(alloc: Global, count: u32) -> Result<ScalarSet, Memory> {
 }
 
 /// The labels of so many fields, and no others.
-fn labels(alloc: Global, fields: u32) -> Result<Labels, Memory> {
+fn labels(alloc: Global, fields: u32) -> Result<LabelSet, Memory> {
     let mut list = Vec::new(alloc);
     for number in 0..fields {
         list.push(label(alloc, number)?)?;
     }
-    match Labels::listing(list) {
+    match LabelSet::listing(list) {
         Some(labels) => Ok(labels),
-        None => Ok(Labels::all(alloc)),
+        None => Ok(LabelSet::all(alloc)),
     }
 }
 
@@ -225,18 +225,18 @@ fn value(alloc: Global, shape: Shape, count: u32) -> Result<ScalarSet, Memory> {
 }
 
 /// The labels that the parent of the fields allows.
-fn allowed(alloc: Global, shape: Shape, count: u32) -> Result<Labels, Memory> {
+fn allowed(alloc: Global, shape: Shape, count: u32) -> Result<LabelSet, Memory> {
     match shape {
         Shape::Closed => labels(alloc, count),
         Shape::Wide | Shape::Deep | Shape::Texts | Shape::Open | Shape::Clashing => {
-            Ok(Labels::all(alloc))
+            Ok(LabelSet::all(alloc))
         }
     }
 }
 
 /// The row at the top.
 fn top(alloc: Global) -> Result<Row, Memory> {
-    Row::of_struct(alloc, Level::Optional, Labels::all(alloc))
+    Row::of_struct(alloc, Level::Optional, LabelSet::all(alloc))
 }
 
 /// The row of the parent of the fields.
@@ -273,7 +273,7 @@ fn read(alloc: Global, bytes: &[u8]) -> Result<(), Error> {
 }
 
 /// Does the work once, on a valid table.
-fn done(alloc: Global, work: Work, table: &Table<Row>, bytes: &[u8]) -> Result<(), Error>
+fn do_work(alloc: Global, work: Work, table: &Table<Row>, bytes: &[u8]) -> Result<(), Error>
     requires { IsValidTable table.now }
 {
     match work {
@@ -314,13 +314,13 @@ fn measured(
     }
     let bytes = encode(alloc, &table)?;
     for _ in 0..rounds {
-        done(alloc, work, &table, &bytes)?;
+        do_work(alloc, work, &table, &bytes)?;
     }
     Ok(bytes.len())
 }
 
 /// What is asked for in words, and what came of it.
-pub fn asked(alloc: Global, words: &[String]) -> Result<String, Error> {
+pub fn run_part(alloc: Global, words: &[String]) -> Result<String, Error> {
     if words.len() < 4 {
         return Err(Fault::Usage.into());
     }

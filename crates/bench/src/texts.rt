@@ -41,7 +41,7 @@ fn size_of(alloc: Global, file: &File, rounds: u32) -> Result<u64, Refusal> {
 }
 
 /// How many rows the table of the text has.
-fn counted(alloc: Global, resolved: &Resolved) -> Result<u64, Memory> {
+fn count_rows(alloc: Global, resolved: &Resolved) -> Result<u64, Memory> {
     let table = evaluate(alloc, resolved)?;
     Ok(table.rows(alloc)?.len() as u64)
 }
@@ -65,7 +65,7 @@ fn rows_of(alloc: Global, file: &File, rounds: Option<u32>) -> Result<u64, Refus
     let resolved = resolve(alloc, file)?;
     match rounds {
         Some(rounds) => Ok(evaluated(alloc, &resolved, rounds)?),
-        None => Ok(counted(alloc, &resolved)?),
+        None => Ok(count_rows(alloc, &resolved)?),
     }
 }
 
@@ -92,7 +92,7 @@ fn found_at<'t>(
 }
 
 /// What the work finds of a text, or why it is refused.
-fn found(alloc: Global, text: &str, work: Work) -> Result<u64, Refusal> {
+fn count_found(alloc: Global, text: &str, work: Work) -> Result<u64, Refusal> {
     match lex(alloc, text) {
         Ok(tokens) => found_at(alloc, &tokens, text.len(), work),
         Err(refusal) => Err(refusal),
@@ -100,7 +100,7 @@ fn found(alloc: Global, text: &str, work: Work) -> Result<u64, Refusal> {
 }
 
 /// What the work finds, in words.
-fn told(alloc: Global, work: Work, count: u64) -> Result<String, Memory> {
+fn write_found(alloc: Global, work: Work, count: u64) -> Result<String, Memory> {
     match work {
         Work::Resolve(_) => Ok(format!(in alloc; "size {count}")?),
         Work::Evaluate(_) | Work::Count => Ok(format!(in alloc; "{count} rows")?),
@@ -109,14 +109,14 @@ fn told(alloc: Global, work: Work, count: u64) -> Result<String, Memory> {
 
 /// What came of a text, in words.
 fn answer(alloc: Global, text: &str, work: Work) -> Result<String, Memory> {
-    match found(alloc, text, work) {
-        Ok(count) => told(alloc, work, count),
+    match count_found(alloc, text, work) {
+        Ok(count) => write_found(alloc, work, count),
         Err(refusal) => Ok(format!(in alloc; "{} at {}", refusal.kind.name(), refusal.place)?),
     }
 }
 
 /// What is asked of the part of this name in words, and what came of it.
-pub fn asked(rt: &HostRuntime, part: &str, words: &[String]) -> Result<String, Error> {
+pub fn run_part(rt: &HostRuntime, part: &str, words: &[String]) -> Result<String, Error> {
     if words.len() < 2 {
         return Err(Fault::Usage.into());
     }

@@ -122,7 +122,7 @@ fn parts(work: Work, rows: u32, round: u32) -> Fields {
 }
 
 /// The table of so many rows, with the others unified into it.
-fn unified<R: Narrow>(
+fn unify_rows<R: Narrow>(
     alloc: Global,
     work: Work,
     shape: Shape,
@@ -172,7 +172,7 @@ fn sample<R: Narrow>(
     rounds: u32,
     row: &R,
 ) -> Result<usize, Memory> {
-    let made = unified(alloc, work, shape, 60, rounds, row)?;
+    let made = unify_rows(alloc, work, shape, 60, rounds, row)?;
     count(alloc, &made)
 }
 
@@ -186,7 +186,7 @@ fn sampled<R: Narrow>(alloc: Global, shape: Shape, row: &R) -> Result<String, Me
 }
 
 /// Whether the first row is there after the work that the words ask for.
-fn done<R: Narrow>(alloc: Global, words: &[String], row: &R) -> Result<bool, Error> {
+fn do_work<R: Narrow>(alloc: Global, words: &[String], row: &R) -> Result<bool, Error> {
     if words.len() < 4 {
         return Err(Fault::Usage.into());
     }
@@ -194,13 +194,13 @@ fn done<R: Narrow>(alloc: Global, words: &[String], row: &R) -> Result<bool, Err
     let shape = Shape::named(words[1].as_str()).ok_or(Fault::Usage)?;
     let rows = number(words[2].as_str())?;
     let rounds = number(words[3].as_str())?;
-    let made = unified(alloc, work, shape, rows, rounds, row)?;
+    let made = unify_rows(alloc, work, shape, rows, rounds, row)?;
     Ok(is_there(alloc, shape, 0, &made)?)
 }
 
 /// What is asked for in words, and what came of it.
-pub fn asked(alloc: Global, words: &[String]) -> Result<String, Error> {
-    let found = done(alloc, words, &integer_row(alloc)?)?;
+pub fn run_part(alloc: Global, words: &[String]) -> Result<String, Error> {
+    let found = do_work(alloc, words, &integer_row(alloc)?)?;
     Ok(format!(in alloc; "{found}")?)
 }
 

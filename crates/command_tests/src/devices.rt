@@ -1,7 +1,7 @@
 //! Readers and writers that fail, and how often one is read.
 use crate::runs::{acted, owned};
 use cue_command::act;
-use cue_program::{Outlet, Shelf};
+use cue_program::{FileSystem, Output};
 use std::io;
 use std::io::{ErrorKind, Read, Write};
 use std::net::{Net, TcpListener, TcpStream};
@@ -66,22 +66,22 @@ fn exported<H, R: Read, W: Write>(
     faults: &mut Vec<u8>,
 ) -> Result<u8, Fail>
 where
-    H: AllocGlobal + Shelf + Net<Listener = TcpListener, Stream = TcpStream>,
+    H: AllocGlobal + FileSystem + Net<Listener = TcpListener, Stream = TcpStream>,
 {
     let words = owned(rt.alloc(), &["export"])?;
     Ok(act(
         rt,
         &words,
         input,
-        &mut Outlet::new(out),
-        &mut Outlet::new(faults),
+        &mut Output::new(out),
+        &mut Output::new(faults),
     ))
 }
 
 /// Whether an export from this reader to this writer tells that a device failed.
 fn tells_a_fault<H, R: Read, W: Write>(rt: &mut H, input: &mut R, out: &mut W) -> Result<bool, Fail>
 where
-    H: AllocGlobal + Shelf + Net<Listener = TcpListener, Stream = TcpStream>,
+    H: AllocGlobal + FileSystem + Net<Listener = TcpListener, Stream = TcpStream>,
 {
     let mut faults = Vec::new(rt.alloc());
     let status = exported(rt, input, out, &mut faults)?;
@@ -91,7 +91,7 @@ where
 /// Whether an export from a reader that fails tells it, and writes nothing.
 fn tells_a_failing_reader<H>(rt: &mut H) -> Result<bool, Fail>
 where
-    H: AllocGlobal + Shelf + Net<Listener = TcpListener, Stream = TcpStream>,
+    H: AllocGlobal + FileSystem + Net<Listener = TcpListener, Stream = TcpStream>,
 {
     let mut out = Vec::new(rt.alloc());
     Ok(tells_a_fault(rt, &mut Broken, &mut out)? && out.is_empty())
@@ -100,7 +100,7 @@ where
 /// Whether an export of this text to a writer that fails tells it.
 fn tells_a_failing_writer<H>(rt: &mut H, text: &str) -> Result<bool, Fail>
 where
-    H: AllocGlobal + Shelf + Net<Listener = TcpListener, Stream = TcpStream>,
+    H: AllocGlobal + FileSystem + Net<Listener = TcpListener, Stream = TcpStream>,
 {
     tells_a_fault(rt, &mut text.as_bytes(), &mut Broken)
 }
@@ -116,7 +116,7 @@ fn tells_failing_devices(mut rt: HostRuntime) -> Result<(), Fail> {
 /// Whether an export of this text tells that its bytes do not get out.
 fn tells_a_stuck_writer<H>(rt: &mut H, text: &str) -> Result<bool, Fail>
 where
-    H: AllocGlobal + Shelf + Net<Listener = TcpListener, Stream = TcpStream>,
+    H: AllocGlobal + FileSystem + Net<Listener = TcpListener, Stream = TcpStream>,
 {
     tells_a_fault(rt, &mut text.as_bytes(), &mut Stuck)
 }
@@ -132,7 +132,7 @@ fn tells_bytes_that_do_not_get_out(mut rt: HostRuntime) -> Result<(), Fail> {
 /// prints this.
 fn drips<H>(rt: &mut H, left: usize, status: u8, out: &str) -> Result<bool, Fail>
 where
-    H: AllocGlobal + Shelf + Net<Listener = TcpListener, Stream = TcpStream>,
+    H: AllocGlobal + FileSystem + Net<Listener = TcpListener, Stream = TcpStream>,
 {
     let words = owned(rt.alloc(), &["export"])?;
     let run = acted(rt, &words, &mut Drip { left });

@@ -2,7 +2,7 @@
 use crate::disk::{Disk, Entry, Out};
 use crate::runs::{Run, answers, ran, writes};
 use crate::states::ONE;
-use cue_program::Shelf;
+use cue_program::FileSystem;
 use std::alloc::Global;
 use std::cell::{Cell, RefCell};
 use std::test::Fail;

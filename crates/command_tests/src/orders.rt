@@ -2,7 +2,7 @@
 use crate::disk::Entry;
 use crate::files::ran_over;
 use crate::runs::{Run, exports_bytes, state_of};
-use cue_program::Shelf;
+use cue_program::FileSystem;
 use std::alloc::Global;
 use std::net::{Net, TcpListener, TcpStream};
 use std::test::Fail;
@@ -16,7 +16,7 @@ fn printed_of<'a>(alloc: Global, text: &'a [u8], state: &'a [u8]) -> Result<Run,
 /// Whether a site that takes a text, and the state of a site that took another one, prints this.
 fn prints_with_the_other<H>(rt: &mut H, text: &str, other: &str, out: &str) -> Result<bool, Fail>
 where
-    H: AllocGlobal + Shelf + Net<Listener = TcpListener, Stream = TcpStream>,
+    H: AllocGlobal + FileSystem + Net<Listener = TcpListener, Stream = TcpStream>,
 {
     let state = state_of(rt, other)?;
     let run = printed_of(rt.alloc(), text.as_bytes(), &state)?;
@@ -53,7 +53,7 @@ fn ran_on_sent(alloc: Global, states: [&[u8]; 3], words: &[&str]) -> Result<Run,
 /// The same, once the three sites have sent their states.
 fn ran_among_three<H>(rt: &mut H, words: &[&str]) -> Result<Run, Fail>
 where
-    H: AllocGlobal + Shelf + Net<Listener = TcpListener, Stream = TcpStream>,
+    H: AllocGlobal + FileSystem + Net<Listener = TcpListener, Stream = TcpStream>,
 {
     let first = state_of(rt, "a: >=0\n---\na: <=9\n")?;
     let second = state_of(rt, "b: *1 | 2\n---\nb: int\n")?;
@@ -65,7 +65,7 @@ where
 /// which is exported so.
 fn are_equal<H>(rt: &mut H, words: &[&str], others: &[&str], json: &str) -> Result<bool, Fail>
 where
-    H: AllocGlobal + Shelf + Net<Listener = TcpListener, Stream = TcpStream>,
+    H: AllocGlobal + FileSystem + Net<Listener = TcpListener, Stream = TcpStream>,
 {
     let first = ran_among_three(rt, words)?;
     let second = ran_among_three(rt, others)?;

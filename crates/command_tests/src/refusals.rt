@@ -1,13 +1,13 @@
 //! Bytes that are refused, as texts or as states, and where.
 use crate::runs::exports_bytes;
-use cue_program::Shelf;
+use cue_program::FileSystem;
 use std::net::{Net, TcpListener, TcpStream};
 use std::test::Fail;
 
 /// Whether a text of one byte more than may be is refused.
 fn refuses_the_longest<H>(rt: &mut H) -> Result<bool, Fail>
 where
-    H: AllocGlobal + Shelf + Net<Listener = TcpListener, Stream = TcpStream>,
+    H: AllocGlobal + FileSystem + Net<Listener = TcpListener, Stream = TcpStream>,
 {
     let long = vec![in rt.alloc(); b'\n'; 1_048_577]?;
     exports_bytes(rt, &long, 1, "refused 1 TooLong at 1048576 in 1\n")

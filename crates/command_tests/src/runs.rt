@@ -1,6 +1,6 @@
 //! Runs over words and an input: what they write, and how they end.
 use cue_command::act;
-use cue_program::{Outlet, Shelf};
+use cue_program::{FileSystem, Output};
 use std::alloc::Global;
 use std::io::Read;
 use std::net::{Net, TcpListener, TcpStream};
@@ -16,7 +16,7 @@ pub struct Run {
 
 impl Run {
     /// One that ended with this status, and wrote this.
-    pub fn of(status: u8, out: Outlet<Vec<u8>>, faults: Outlet<Vec<u8>>) -> Run {
+    pub fn of(status: u8, out: Output<Vec<u8>>, faults: Output<Vec<u8>>) -> Run {
         Run {
             status,
             out: out.into_inner(),
@@ -43,17 +43,17 @@ pub fn owned(alloc: Global, words: &[&str]) -> Result<Vec<String>, Fail> {
 /// caller is short.
 pub fn acted<H, R: Read>(rt: &mut H, words: &[String], input: &mut R) -> Run
 where
-    H: AllocGlobal + Shelf + Net<Listener = TcpListener, Stream = TcpStream>,
+    H: AllocGlobal + FileSystem + Net<Listener = TcpListener, Stream = TcpStream>,
 {
-    let mut out = Outlet::new(Vec::new(rt.alloc()));
-    let mut faults = Outlet::new(Vec::new(rt.alloc()));
+    let mut out = Output::new(Vec::new(rt.alloc()));
+    let mut faults = Output::new(Vec::new(rt.alloc()));
     let status = act(rt, words, input, &mut out, &mut faults);
     Run::of(status, out, faults)
 }
 
 pub fn ran<H>(rt: &mut H, words: &[&str], mut input: &[u8]) -> Result<Run, Fail>
 where
-    H: AllocGlobal + Shelf + Net<Listener = TcpListener, Stream = TcpStream>,
+    H: AllocGlobal + FileSystem + Net<Listener = TcpListener, Stream = TcpStream>,
 {
     let words = owned(rt.alloc(), words)?;
     Ok(acted(rt, &words, &mut input))
@@ -69,7 +69,7 @@ pub fn answers<H>(
     faults: &str,
 ) -> Result<bool, Fail>
 where
-    H: AllocGlobal + Shelf + Net<Listener = TcpListener, Stream = TcpStream>,
+    H: AllocGlobal + FileSystem + Net<Listener = TcpListener, Stream = TcpStream>,
 {
     let run = ran(rt, words, input)?;
     Ok(run.is(status, out.as_bytes(), faults.as_bytes()))
@@ -78,7 +78,7 @@ where
 /// Whether a run over these words and this input ends well and writes just these bytes.
 pub fn writes<H>(rt: &mut H, words: &[&str], input: &[u8], bytes: &[u8]) -> Result<bool, Fail>
 where
-    H: AllocGlobal + Shelf + Net<Listener = TcpListener, Stream = TcpStream>,
+    H: AllocGlobal + FileSystem + Net<Listener = TcpListener, Stream = TcpStream>,
 {
     let run = ran(rt, words, input)?;
     Ok(run.is(0, bytes, b""))
@@ -87,7 +87,7 @@ where
 /// Whether the export of these texts ends with this status, and prints this.
 pub fn exports<H>(rt: &mut H, texts: &str, status: u8, out: &str) -> Result<bool, Fail>
 where
-    H: AllocGlobal + Shelf + Net<Listener = TcpListener, Stream = TcpStream>,
+    H: AllocGlobal + FileSystem + Net<Listener = TcpListener, Stream = TcpStream>,
 {
     exports_bytes(rt, texts.as_bytes(), status, out)
 }
@@ -95,7 +95,7 @@ where
 /// Whether the export of these bytes ends with this status, and prints this.
 pub fn exports_bytes<H>(rt: &mut H, bytes: &[u8], status: u8, out: &str) -> Result<bool, Fail>
 where
-    H: AllocGlobal + Shelf + Net<Listener = TcpListener, Stream = TcpStream>,
+    H: AllocGlobal + FileSystem + Net<Listener = TcpListener, Stream = TcpStream>,
 {
     answers(rt, &["export"], bytes, status, out, "")
 }
@@ -103,7 +103,7 @@ where
 /// The state bytes of a site that has taken these texts.
 pub fn state_of<H>(rt: &mut H, texts: &str) -> Result<Vec<u8>, Fail>
 where
-    H: AllocGlobal + Shelf + Net<Listener = TcpListener, Stream = TcpStream>,
+    H: AllocGlobal + FileSystem + Net<Listener = TcpListener, Stream = TcpStream>,
 {
     Ok(ran(rt, &["state"], texts.as_bytes())?.out)
 }

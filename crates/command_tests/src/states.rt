@@ -1,6 +1,6 @@
 //! State bytes that are taken, refused and written.
 use crate::runs::{answers, exports_bytes, state_of, writes};
-use cue_program::Shelf;
+use cue_program::FileSystem;
 use std::alloc::Global;
 use std::net::{Net, TcpListener, TcpStream};
 use std::test::Fail;
@@ -74,7 +74,7 @@ fn a_clash_is_kept_in_the_state(mut rt: HostRuntime) -> Result<(), Fail> {
 /// Whether both texts give the same state, of so many bytes.
 fn give_one_state<H>(rt: &mut H, text: &str, other: &str, length: usize) -> Result<bool, Fail>
 where
-    H: AllocGlobal + Shelf + Net<Listener = TcpListener, Stream = TcpStream>,
+    H: AllocGlobal + FileSystem + Net<Listener = TcpListener, Stream = TcpStream>,
 {
     let state = state_of(rt, text)?;
     Ok(state.len() == length && writes(rt, &["state"], other.as_bytes(), &state)?)
@@ -89,7 +89,7 @@ fn what_is_known_already_adds_nothing_to_a_state(mut rt: HostRuntime) -> Result<
 /// Whether these bytes are refused as no state.
 fn are_no_state<H>(rt: &mut H, bytes: &[u8]) -> Result<bool, Fail>
 where
-    H: AllocGlobal + Shelf + Net<Listener = TcpListener, Stream = TcpStream>,
+    H: AllocGlobal + FileSystem + Net<Listener = TcpListener, Stream = TcpStream>,
 {
     exports_bytes(rt, bytes, 1, "refused 18 NotState at 0 in 1\n")
 }
@@ -97,7 +97,7 @@ where
 /// Whether no part of this state from its start is one.
 fn cuts_are_refused<H>(rt: &mut H, state: &[u8]) -> Result<bool, Fail>
 where
-    H: AllocGlobal + Shelf + Net<Listener = TcpListener, Stream = TcpStream>,
+    H: AllocGlobal + FileSystem + Net<Listener = TcpListener, Stream = TcpStream>,
 {
     for length in 1..state.len() {
         if !are_no_state(rt, &state[..length])? {
@@ -116,7 +116,7 @@ fn refuses_a_cut_state(mut rt: HostRuntime) -> Result<(), Fail> {
 /// Whether the state of `a: 1` is refused with its rows swapped, and with a free row.
 fn refuses_other_rows<H>(rt: &mut H) -> Result<bool, Fail>
 where
-    H: AllocGlobal + Shelf + Net<Listener = TcpListener, Stream = TcpStream>,
+    H: AllocGlobal + FileSystem + Net<Listener = TcpListener, Stream = TcpStream>,
 {
     let swapped = with_rows_swapped(rt.alloc())?;
     let free_row = with_a_free_row(rt.alloc())?;
@@ -134,7 +134,7 @@ fn newer(alloc: Global) -> Result<Vec<u8>, Fail> {
 /// Whether that state is refused for its version.
 fn refuses_newer<H>(rt: &mut H) -> Result<bool, Fail>
 where
-    H: AllocGlobal + Shelf + Net<Listener = TcpListener, Stream = TcpStream>,
+    H: AllocGlobal + FileSystem + Net<Listener = TcpListener, Stream = TcpStream>,
 {
     let bytes = newer(rt.alloc())?;
     exports_bytes(rt, &bytes, 1, "refused 17 Version at 0 in 1\n")

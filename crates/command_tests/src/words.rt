@@ -2,8 +2,8 @@
 use crate::disk::Disk;
 use crate::files::{Pages, blank_pages, disk};
 use crate::runs::{Run, answers, owned};
-use cue_command::{given_words, report, run, unread};
-use cue_program::{Outlet, Shelf};
+use cue_command::{given_words, report, run, unread_fault};
+use cue_program::{FileSystem, Output};
 use std::alloc::Global;
 use std::io;
 use std::io::ErrorKind;
@@ -13,7 +13,7 @@ use std::test::Fail;
 
 fn assert_usage<H>(rt: &mut H, words: &[&str]) -> Result<(), Fail>
 where
-    H: AllocGlobal + Shelf + Abort + Net<Listener = TcpListener, Stream = TcpStream>,
+    H: AllocGlobal + FileSystem + Abort + Net<Listener = TcpListener, Stream = TcpStream>,
 {
     let told = answers(rt, words, b"a: 1\n".as_slice(), 1, "", "usage fault\n")?;
     let rt = &*rt;
@@ -93,8 +93,8 @@ fn the_words_are_those_after_the_name(rt: HostRuntime) -> Result<(), Fail> {
 
 /// What a process does with this input.
 fn done(process: &mut Disk, mut input: &[u8]) -> Run {
-    let mut out = Outlet::new(Vec::new(process.alloc()));
-    let mut faults = Outlet::new(Vec::new(process.alloc()));
+    let mut out = Output::new(Vec::new(process.alloc()));
+    let mut faults = Output::new(Vec::new(process.alloc()));
     let status = run(process, &mut input, &mut out, &mut faults);
     Run::of(status, out, faults)
 }
@@ -120,9 +120,9 @@ fn a_word_that_is_no_text_is_a_usage_fault(rt: HostRuntime) {
 
 /// What is told where words can't be read, for this reason.
 fn told(alloc: Global, kind: ErrorKind) -> Run {
-    let fault = unread(&io::Error::from(kind));
-    let mut out = Outlet::new(Vec::new(alloc));
-    let mut faults = Outlet::new(Vec::new(alloc));
+    let fault = unread_fault(&io::Error::from(kind));
+    let mut out = Output::new(Vec::new(alloc));
+    let mut faults = Output::new(Vec::new(alloc));
     let status = report(&fault, &mut out, &mut faults);
     Run::of(status, out, faults)
 }

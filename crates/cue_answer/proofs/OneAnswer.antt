@@ -10,9 +10,9 @@ use Rattle.cue_replica.specs.declared.ExportKind.{ExportKind}
 use Rattle.cue_replica.specs.declared.ExportKind.TheVariants.{Json, Conflicts, Incomplete}
 use Rattle.cue_replica.specs.Language.{Table, language}
 use Rattle.cue_replica.specs.Reports.{IsExportAsText, AreConflictsOf, AreGapsOf, conflict_line, gap_line}
-use Rattle.cue_answer.specs.Answers.{IsAnswer, IsShown, Says, Tells, line_end, report_lines, report_status, status_of}
-use Rattle.cue_answer.specs.declared.question.Question.{Question}
-use Rattle.cue_answer.specs.declared.question.Question.TheVariants as questions
+use Rattle.cue_answer.specs.Answers.{IsAnswer, IsShown, HasBytesAndStatus, IsWholeAnswer, line_end, report_lines, report_status, status_of}
+use Rattle.cue_answer.specs.declared.question.SiteQuestion.{SiteQuestion}
+use Rattle.cue_answer.specs.declared.question.SiteQuestion.TheVariants as questions
 use Rattle.cue_answer.specs.declared.question.Status.{Status}
 use Rattle.cue_answer.specs.declared.told.Answer.{Answer}
 
@@ -40,7 +40,7 @@ module _ (table : Table) where
       let refuses = language.table_refuses table in
       (refl, e ∙ ap compact_text (one_document refuses refuses j k (same_answers refuses) is too) ∙ sym f)
 
-  pub one_answer : (question : Question) (s t : List ℕ) (p q : Status) → IsAnswer question table s p → IsAnswer question table t q → (s ≡ t) × (p ≡ q)
+  pub one_answer : (question : SiteQuestion) (s t : List ℕ) (p q : Status) → IsAnswer question table s p → IsAnswer question table t q → (s ≡ t) × (p ≡ q)
   one_answer questions.Export s t p q (k, is, e) (l, too, f) =
       let same = one_export k l s t is too in (same.1, e ∙ ap status_of same.0 ∙ sym f)
   one_answer questions.Print s t p q (is, e) (too, f) = (is ∙ sym too, e ∙ sym f)
@@ -53,7 +53,7 @@ module _ (table : Table) where
   one_answer questions.State s t p q (is, e) (too, f) = (is ∙ sym too, e ∙ sym f)
 
   -- what is printed of an answer that is held whole
-  pub shown_by : (question : Question) (told shown : Answer) → Tells question table told → Says shown (told.bytes.items ++ line_end question told.status) told.status → IsShown question table shown.bytes.items shown.status
+  pub shown_by : (question : SiteQuestion) (told shown : Answer) → IsWholeAnswer question table told → HasBytesAndStatus shown (told.bytes.items ++ line_end question told.status) told.status → IsShown question table shown.bytes.items shown.status
   shown_by question told shown tells says = (
     told.bytes.items,
     subst (IsAnswer question table told.bytes.items) (sym says.1) tells,

@@ -2,18 +2,18 @@
 use Rattle.std.specs.Prelude.{◌≡◌, ℕ, ◌++◌, List, ◌∷◌, [], Option}
 use Rattle.std.specs.Io.KnownBytes.{Appends}
 use Rattle.std.specs.List.{flat_map}
-use Rattle.cue_device.specs.Texts.{Begins}
+use Rattle.cue_device.specs.Texts.{WritesPrefix}
 use Rattle.cue_replica.specs.declared.Conflict.{Conflict}
 use Rattle.cue_replica.specs.declared.Gap.{Gap}
 use Rattle.cue_replica.specs.declared.ExportKind.{ExportKind}
 use Rattle.cue_replica.specs.declared.ExportKind.TheVariants as kinds
 use Rattle.cue_replica.specs.Reports.{IsExportAsText, AreConflictsOf, AreGapsOf, conflict_line}
-use Rattle.cue_replica.specs.Reports.{gap_line, printed}
+use Rattle.cue_replica.specs.Reports.{gap_line, printed_text}
 use Rattle.cue_replica.specs.Language.{Table, language}
 use Rattle.cue_answer.specs.declared.question.Status.{Status}
 use Rattle.cue_answer.specs.declared.question.Status.TheVariants as statuses
-use Rattle.cue_answer.specs.declared.question.Question.{Question}
-use Rattle.cue_answer.specs.declared.question.Question.TheVariants as questions
+use Rattle.cue_answer.specs.declared.question.SiteQuestion.{SiteQuestion}
+use Rattle.cue_answer.specs.declared.question.SiteQuestion.TheVariants as questions
 use Rattle.cue_answer.specs.declared.question.TextQuestion.{TextQuestion}
 use Rattle.cue_answer.specs.declared.question.TextQuestion.TheVariants as texts
 use Rattle.cue_answer.specs.declared.told.Answer.{Answer}
@@ -41,17 +41,17 @@ abbrev pub report_lines : List Conflict → List Gap → List ℕ
 report_lines conflicts gaps = flat_map conflict_line conflicts ++ flat_map gap_line gaps
 
 -- the questions that are answered by a text
-abbrev pub of_text : TextQuestion → Question
+abbrev pub of_text : TextQuestion → SiteQuestion
 of_text texts.Export = questions.Export
 of_text texts.Print = questions.Print
 of_text texts.Report = questions.Report
 
 -- The answer to a question about the table: these bytes, with this status.
-abbrev pub IsAnswer : Question → Table → List ℕ → Status → Type 0
+abbrev pub IsAnswer : SiteQuestion → Table → List ℕ → Status → Type 0
 IsAnswer questions.Export table bytes status =
     (kind : ExportKind) × IsExportAsText table kind bytes × (status ≡ status_of kind)
 IsAnswer questions.Print table bytes status =
-    (bytes ≡ printed table) × (status ≡ statuses.Done)
+    (bytes ≡ printed_text table) × (status ≡ statuses.Done)
 IsAnswer questions.Report table bytes status =
     (conflicts : List Conflict) × (gaps : List Gap) × AreConflictsOf table conflicts
     × AreGapsOf table gaps
@@ -60,31 +60,31 @@ IsAnswer questions.State table bytes status =
     (bytes ≡ language.written table) × (status ≡ statuses.Done)
 
 -- it is held whole
-abbrev pub Tells : Question → Table → Answer → Type 0
-Tells question table answer = IsAnswer question table answer.bytes.items answer.status
+abbrev pub IsWholeAnswer : SiteQuestion → Table → Answer → Type 0
+IsWholeAnswer question table answer = IsAnswer question table answer.bytes.items answer.status
 
 -- known bytes grow by it, and it has this status
-abbrev pub TellsAnswer : Question → Table → Status → Option (List ℕ) → Option (List ℕ) → Type 0
-TellsAnswer question table status old new =
+abbrev pub WritesAnswer : SiteQuestion → Table → Status → Option (List ℕ) → Option (List ℕ) → Type 0
+WritesAnswer question table status old new =
     (bytes : List ℕ) × IsAnswer question table bytes status × Appends old new bytes
 
 -- they grow by the front of it
-abbrev pub BeginsAnswer : Question → Table → Option (List ℕ) → Option (List ℕ) → Type 0
-BeginsAnswer question table old new =
+abbrev pub WritesAnswerPrefix : SiteQuestion → Table → Option (List ℕ) → Option (List ℕ) → Type 0
+WritesAnswerPrefix question table old new =
     (bytes : List ℕ) (status : Status) → IsAnswer question table bytes status
-    → Begins old new bytes
+    → WritesPrefix old new bytes
 
 -- what a run prints behind an answer: a line break behind a JSON text, and else nothing
-abbrev pub line_end : Question → Status → List ℕ
+abbrev pub line_end : SiteQuestion → Status → List ℕ
 line_end questions.Export statuses.Done = 10 ∷ []
 line_end _ _ = []
 
 -- an answer about a table as a run prints it
-abbrev pub IsShown : Question → Table → List ℕ → Status → Type 0
+abbrev pub IsShown : SiteQuestion → Table → List ℕ → Status → Type 0
 IsShown question table shown status =
     (bytes : List ℕ) × IsAnswer question table bytes status
     × (shown ≡ bytes ++ line_end question status)
 
 -- the answer has these bytes and this status
-abbrev pub Says : Answer → List ℕ → Status → Type 0
-Says answer bytes status = (answer.bytes.items ≡ bytes) × (answer.status ≡ status)
+abbrev pub HasBytesAndStatus : Answer → List ℕ → Status → Type 0
+HasBytesAndStatus answer bytes status = (answer.bytes.items ≡ bytes) × (answer.status ≡ status)

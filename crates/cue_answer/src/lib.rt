@@ -8,6 +8,6 @@ mod told;
 
 pub use cue_device::TextSink;
 pub use cue_replica::{Memory, Replica};
-pub use question::{Question, Status, TextQuestion};
-pub use telling::tell_answer;
-pub use told::{Answer, answer_to, printed};
+pub use question::{SiteQuestion, Status, TextQuestion};
+pub use telling::write_answer;
+pub use told::{Answer, answer_to, to_printed};

@@ -3,7 +3,7 @@ ghost use Rattle.cue_answer.specs.Answers.{code_of, of_text};
 
 /// What is asked of a site.
 #[derive(Clone, Copy, Debug, PartialEq, Eq)]
-pub enum Question {
+pub enum SiteQuestion {
     /// The JSON, or the conflict lines, or the incomplete lines.
     Export,
     /// The canonical text.
@@ -25,17 +25,17 @@ pub enum TextQuestion {
     Report,
 }
 
-impl Question {
+impl SiteQuestion {
     /// The same question, where its answer is a text: state bytes are none.
     pub fn as_text(self) -> Option<TextQuestion>
         ensures text { IfSome result (λ question. of_text question ≡ self) }
         ensures state { IfNone result (self ≡ Question.State) }
     {
         match self {
-            Question::Export => Some(TextQuestion::Export),
-            Question::Print => Some(TextQuestion::Print),
-            Question::Report => Some(TextQuestion::Report),
-            Question::State => None,
+            SiteQuestion::Export => Some(TextQuestion::Export),
+            SiteQuestion::Print => Some(TextQuestion::Print),
+            SiteQuestion::Report => Some(TextQuestion::Report),
+            SiteQuestion::State => None,
         }
     }
 }

@@ -1,6 +1,6 @@
 //! Answers that are written while they are made.
 ghost use Rattle.std.specs.Prelude.{◌≡◌, IfOk, OnErr};
-ghost use Rattle.cue_answer.specs.Answers.{of_text, status_of, BeginsAnswer, TellsAnswer};
+ghost use Rattle.cue_answer.specs.Answers.{of_text, status_of, WritesAnswerPrefix, WritesAnswer};
 ghost use Rattle.cue_answer.specs.Inner.{lines_status};
 
 use crate::question::{Status, TextQuestion};
@@ -14,36 +14,40 @@ use std::alloc::Global;
 /// # Errors
 ///
 /// Where no more is taken, or memory ran out; then the front of the answer was taken.
-pub fn tell_answer<S: TextSink>(
+pub fn write_answer<S: TextSink>(
     alloc: Global,
     question: TextQuestion,
     site: &Replica,
     out: &mut S,
-) -> Result<Status, S::Halt>
-    ensures told { IfOk result (λ status. TellsAnswer (of_text question) site.now status
+) -> Result<Status, S::SinkError>
+    ensures told { IfOk result (λ status. WritesAnswer (of_text question) site.now status
         (S.taken out.old) (S.taken out.new)) }
     ensures begun { OnErr result
-        (BeginsAnswer (of_text question) site.now (S.taken out.old) (S.taken out.new)) }
+        (WritesAnswerPrefix (of_text question) site.now (S.taken out.old) (S.taken out.new)) }
 {
     match question {
-        TextQuestion::Export => Ok(status_by(site.tell_export(alloc, out)?)),
+        TextQuestion::Export => Ok(status_by(site.write_export(alloc, out)?)),
         TextQuestion::Print => {
-            site.tell_printed(alloc, out)?;
+            site.write_printed(alloc, out)?;
             Ok(Status::Done)
         }
-        TextQuestion::Report => tell_report(alloc, site, out),
+        TextQuestion::Report => write_report(alloc, site, out),
     }
 }
 
 /// Tells a line for each conflict, and then one for each place that is incomplete.
-fn tell_report<S: TextSink>(alloc: Global, site: &Replica, out: &mut S) -> Result<Status, S::Halt>
-    ensures told { IfOk result (λ status. TellsAnswer (of_text TextQuestion.Report) site.now status
+fn write_report<S: TextSink>(
+    alloc: Global,
+    site: &Replica,
+    out: &mut S,
+) -> Result<Status, S::SinkError>
+    ensures told { IfOk result (λ status. WritesAnswer (of_text TextQuestion.Report) site.now status
         (S.taken out.old) (S.taken out.new)) }
     ensures begun { OnErr result
-        (BeginsAnswer (of_text TextQuestion.Report) site.now (S.taken out.old) (S.taken out.new)) }
+        (WritesAnswerPrefix (of_text TextQuestion.Report) site.now (S.taken out.old) (S.taken out.new)) }
 {
-    let conflicting = site.tell_conflicts(alloc, out)?;
-    let lacking = site.tell_gaps(alloc, out)?;
+    let conflicting = site.write_conflicts(alloc, out)?;
+    let lacking = site.write_gaps(alloc, out)?;
     Ok(status_of_lines(conflicting, lacking))
 }
 

@@ -1,8 +1,8 @@
 ghost use Rattle.std.specs.Prelude.{◌++◌, IfOk};
-ghost use Rattle.cue_answer.specs.Answers.{line_end, of_text, Says, Tells};
+ghost use Rattle.cue_answer.specs.Answers.{line_end, of_text, HasBytesAndStatus, IsWholeAnswer};
 
-use crate::question::{Question, Status, TextQuestion};
-use crate::telling::tell_answer;
+use crate::question::{SiteQuestion, Status, TextQuestion};
+use crate::telling::write_answer;
 use cue_replica::{Memory, Replica};
 use std::alloc::Global;
 
@@ -18,8 +18,8 @@ pub struct Answer {
 /// # Errors
 ///
 /// `Memory`.
-pub fn answer_to(alloc: Global, question: Question, site: &Replica) -> Result<Answer, Memory>
-    ensures tells { IfOk result (Tells question site.now) }
+pub fn answer_to(alloc: Global, question: SiteQuestion, site: &Replica) -> Result<Answer, Memory>
+    ensures tells { IfOk result (IsWholeAnswer question site.now) }
 {
     match question.as_text() {
         None => Ok(Answer {
@@ -35,11 +35,11 @@ pub fn answer_to(alloc: Global, question: Question, site: &Replica) -> Result<An
 /// # Errors
 ///
 /// `Memory`.
-pub fn printed(question: Question, mut answer: Answer) -> Result<Answer, Memory>
+pub fn to_printed(question: SiteQuestion, mut answer: Answer) -> Result<Answer, Memory>
     ensures prints { IfOk result (λ shown.
-        Says shown (answer.bytes.items ++ line_end question answer.status) answer.status) }
+        HasBytesAndStatus shown (answer.bytes.items ++ line_end question answer.status) answer.status) }
 {
-    if question == Question::Export && answer.status == Status::Done {
+    if question == SiteQuestion::Export && answer.status == Status::Done {
         answer.bytes.push(b'\n')?;
     }
     Ok(answer)
@@ -47,10 +47,10 @@ pub fn printed(question: Question, mut answer: Answer) -> Result<Answer, Memory>
 
 /// What the site answers in a text.
 fn text_to(alloc: Global, question: TextQuestion, site: &Replica) -> Result<Answer, Memory>
-    ensures tells { IfOk result (Tells (of_text question) site.now) }
+    ensures tells { IfOk result (IsWholeAnswer (of_text question) site.now) }
 {
     let mut text = String::new(alloc);
-    let status = tell_answer(alloc, question, site, &mut text)?;
+    let status = write_answer(alloc, question, site, &mut text)?;
     Ok(Answer {
         bytes: text.into_bytes(),
         status,

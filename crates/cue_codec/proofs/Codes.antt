@@ -6,7 +6,7 @@ use Rattle.std.proofs.lemmas.List.{take_at, drop_at, length-append, append-nil}
 use Rattle.std.proofs.lemmas.List.Concat.{flat_map-append, flat_map-cons}
 use Rattle.std.proofs.lemmas.Nat.{from_be_bytes-to_be_bytes_2, from_be_bytes-to_be_bytes_4, from_be_bytes-to_be_bytes_8}
 use Rattle.cue_codec.specs.Parts.{counted_bytes}
-use Rattle.cue_codec.specs.Reading.{Begins, BeginsNone, IsRefused, AreCounted}
+use Rattle.cue_codec.specs.Reading.{ReadsItem, ReadsNoItem, IsReadRefused, AreCounted}
 use Rattle.cue_codec.specs.Inner.Reading.{AreSo, IsNoneRead}
 use Rattle.cue_codec.specs.declared.unread.Unread.{Unread}
 use Rattle.cue_codec.specs.declared.unread.Unread.TheVariants.{Memory, Cut, Wrong}
@@ -68,7 +68,7 @@ all_more v [] x p q = (q, tt)
 all_more v (y ∷ ys) x p q = (p.0, all_more v ys x p.1 q)
 
 no_more : {X : Type 0} (v : X → Type 0) (code : X → List ℕ) → OneItem v code → (xs ys : List X) (rest s : List ℕ) → AllByRecursion v xs → AllByRecursion v ys → length xs < length ys
-    → flat_map code xs ++ rest ≡ flat_map code ys ++ s → BeginsNone v code rest → ⊥
+    → flat_map code xs ++ rest ≡ flat_map code ys ++ s → ReadsNoItem v code rest → ⊥
 no_more v code one [] [] rest s p q n e none = omega (arith, n)
 no_more v code one [] (y ∷ ys) rest s p q n e none = none y (flat_map code ys ++ s) q.0 (e ∙ list_step code y ys s)
 no_more v code one (x ∷ xs) [] rest s p q n e none = omega (arith, n)
@@ -78,7 +78,7 @@ no_more v code one (x ∷ xs) (y ∷ ys) rest s p q n e none =
 
 -- where an item is missing, so many items do not stand
 pub items_none : {X : Type 0} (v : X → Type 0) (code : X → List ℕ) → OneItem v code → (count : ℕ) (xs : List X) (bytes rest : List ℕ) → AllByRecursion v xs → length xs < count
-    → bytes ≡ flat_map code xs ++ rest → BeginsNone v code rest → BeginsNone (AreSo v count) (flat_map code) bytes
+    → bytes ≡ flat_map code xs ++ rest → ReadsNoItem v code rest → ReadsNoItem (AreSo v count) (flat_map code) bytes
 items_none v code one count xs bytes rest p n e none = λ ys s q is.
     no_more v code one xs ys rest s p q.1 (omega (arith, n, q.0)) (sym e ∙ is) none
 
@@ -96,47 +96,47 @@ one_counted v code one xs ys r s p q e =
 
 -- a count and the items after it were read
 pub counted_found : {X : Type 0} (v : X → Type 0) (code : X → List ℕ) (count : ℕ) (xs : List X) (bytes items rest : List ℕ) → count < 2 ^ 64 → bytes ≡ to_be_bytes w64 count ++ items
-    → Begins (AreSo v count) (flat_map code) xs items rest → Begins (AreCounted v) (counted_bytes code) xs bytes rest
+    → ReadsItem (AreSo v count) (flat_map code) xs items rest → ReadsItem (AreCounted v) (counted_bytes code) xs bytes rest
 counted_found v code count xs bytes items rest lt e b = record {
   value = (b.value.1, omega (arith, lt, b.value.0));
   parts = e ∙ ap (λ (t : List ℕ). to_be_bytes w64 count ++ t) b.parts ∙ ap (λ (n : ℕ). to_be_bytes w64 n ++ (flat_map code xs ++ rest)) (sym b.value.0) ∙ sym (counted_parts code xs rest);
 }
 
-pub counted_none : {X : Type 0} (v : X → Type 0) (code : X → List ℕ) (count : ℕ) (bytes items : List ℕ) → count < 2 ^ 64 → bytes ≡ to_be_bytes w64 count ++ items → BeginsNone (AreSo v count) (flat_map code) items
-    → BeginsNone (AreCounted v) (counted_bytes code) bytes
+pub counted_none : {X : Type 0} (v : X → Type 0) (code : X → List ℕ) (count : ℕ) (bytes items : List ℕ) → count < 2 ^ 64 → bytes ≡ to_be_bytes w64 count ++ items → ReadsNoItem (AreSo v count) (flat_map code) items
+    → ReadsNoItem (AreCounted v) (counted_bytes code) bytes
 counted_none v code count bytes items lt e none = λ xs s p is.
     let first = one_number w64 (2 ^ 64) wide64 (length xs) count (flat_map code xs ++ s) items p.1 lt (sym (counted_parts code xs s) ∙ sym is ∙ e) in
     none xs s (first.0, p.0) (sym first.1)
 
 -- too few bytes for a count
-pub counted_short : {X : Type 0} (v : X → Type 0) (code : X → List ℕ) (bytes : List ℕ) → length bytes < 8 → BeginsNone (AreCounted v) (counted_bytes code) bytes
+pub counted_short : {X : Type 0} (v : X → Type 0) (code : X → List ℕ) (bytes : List ℕ) → length bytes < 8 → ReadsNoItem (AreCounted v) (counted_bytes code) bytes
 counted_short v code bytes lt = λ xs s p is.
     omega (arith, lt, ap length (is ∙ counted_parts code xs s), length-append (to_be_bytes w64 (length xs)) (flat_map code xs ++ s), wide64.len (length xs))
 
 -- ---- one part after another
 
 -- where the first part does not stand, the whole doesn't
-pub first_none : {A X : Type 0} (va : A → Type 0) (ca : A → List ℕ) (v : X → Type 0) (code : X → List ℕ) (bytes : List ℕ) → ((x : X) (s : List ℕ) → v x → (a : A) × (r : List ℕ) × va a × (code x ++ s ≡ ca a ++ r)) → BeginsNone va ca bytes → BeginsNone v code bytes
+pub first_none : {A X : Type 0} (va : A → Type 0) (ca : A → List ℕ) (v : X → Type 0) (code : X → List ℕ) (bytes : List ℕ) → ((x : X) (s : List ℕ) → v x → (a : A) × (r : List ℕ) × va a × (code x ++ s ≡ ca a ++ r)) → ReadsNoItem va ca bytes → ReadsNoItem v code bytes
 first_none va ca v code bytes split none = λ x s h e.
     let parts = split x s h in none parts.0 parts.1 parts.2 (e ∙ parts.3)
 
 -- where the second does not stand after the first, the whole doesn't
 pub second_none : {A B X : Type 0} (va : A → Type 0) (ca : A → List ℕ) → OneItem va ca → (vb : B → Type 0) (cb : B → List ℕ) (v : X → Type 0) (code : X → List ℕ) (a : A) (bytes rest : List ℕ)
-    → ((x : X) (s : List ℕ) → v x → (b : A) × (c : B) × (r : List ℕ) × va b × vb c × (code x ++ s ≡ ca b ++ (cb c ++ r))) → Begins va ca a bytes rest → BeginsNone vb cb rest → BeginsNone v code bytes
+    → ((x : X) (s : List ℕ) → v x → (b : A) × (c : B) × (r : List ℕ) × va b × vb c × (code x ++ s ≡ ca b ++ (cb c ++ r))) → ReadsItem va ca a bytes rest → ReadsNoItem vb cb rest → ReadsNoItem v code bytes
 second_none va ca one vb cb v code a bytes rest split begins none = λ x s h e.
     let parts = split x s h in
     let same = one a parts.0 rest (cb parts.1 ++ parts.2) begins.value parts.3 (sym begins.parts ∙ e ∙ parts.5) in
     none parts.1 parts.2 parts.4 same.1
 
 -- where what was found is no such value, none stands
-pub other_none : {A : Type 0} (va v : A → Type 0) (code : A → List ℕ) → OneItem va code → ((x : A) → v x → va x) → (a : A) (bytes rest : List ℕ) → Begins va code a bytes rest → (v a → ⊥) → BeginsNone v code bytes
+pub other_none : {A : Type 0} (va v : A → Type 0) (code : A → List ℕ) → OneItem va code → ((x : A) → v x → va x) → (a : A) (bytes rest : List ℕ) → ReadsItem va code a bytes rest → (v a → ⊥) → ReadsNoItem v code bytes
 other_none va v code one weaker a bytes rest begins bad = λ x s h e.
     bad (subst v (sym (one a x rest s begins.value (weaker x h) (sym begins.parts ∙ e)).0) h)
 
 -- ---- refusals
 
 -- why one thing is refused is why another is
-pub refused_so : (kind : Kind) (A B : Type 0) → (A → B) → IsRefused kind A → IsRefused kind B
+pub refused_so : (kind : Kind) (A B : Type 0) → (A → B) → IsReadRefused kind A → IsReadRefused kind B
 refused_so kind A B f refused = elim refused [ inl memory ↦ inl memory | inr reason ↦ inr (reason.0, f reason.1) ]
 
 -- ---- bytes that go on
@@ -149,7 +149,7 @@ tag_more bytes rest tag more e = ap (λ (t : List ℕ). t ++ more) e
 pub front_more : (bytes front rest more : List ℕ) → bytes ≡ front ++ rest → bytes ++ more ≡ front ++ (rest ++ more)
 front_more bytes front rest more e = ap (λ (t : List ℕ). t ++ more) e ∙ append_assoc front rest more
 
-pub begins_more : {X : Type 0} (v : X → Type 0) (code : X → List ℕ) (x : X) (bytes rest more : List ℕ) → Begins v code x bytes rest → Begins v code x (bytes ++ more) (rest ++ more)
+pub begins_more : {X : Type 0} (v : X → Type 0) (code : X → List ℕ) (x : X) (bytes rest more : List ℕ) → ReadsItem v code x bytes rest → ReadsItem v code x (bytes ++ more) (rest ++ more)
 begins_more v code x bytes rest more b = record { value = b.value; parts = front_more bytes (code x) rest more b.parts }
 
 -- where one thing is missing whatever follows, so is another, which has it
@@ -159,7 +159,7 @@ unread_so Cut P Q a b f h = subst Q (append-nil b) (f [] (subst P (sym (append-n
 unread_so Wrong P Q a b f h = λ more. f more (h more)
 
 pub items_unread : {X : Type 0} (why : Unread) (v : X → Type 0) (code : X → List ℕ) → OneItem v code → (count : ℕ) (xs : List X) (bytes rest : List ℕ) → AllByRecursion v xs → length xs < count
-    → bytes ≡ flat_map code xs ++ rest → IsNoneRead why (BeginsNone v code) rest → IsNoneRead why (BeginsNone (AreSo v count) (flat_map code)) bytes
+    → bytes ≡ flat_map code xs ++ rest → IsNoneRead why (ReadsNoItem v code) rest → IsNoneRead why (ReadsNoItem (AreSo v count) (flat_map code)) bytes
 items_unread why v code one count xs bytes rest p n e =
-    unread_so why (BeginsNone v code) (BeginsNone (AreSo v count) (flat_map code)) rest bytes
+    unread_so why (ReadsNoItem v code) (ReadsNoItem (AreSo v count) (flat_map code)) rest bytes
     (λ more. items_none v code one count xs (bytes ++ more) (rest ++ more) p n (front_more bytes (flat_map code xs) rest more e))

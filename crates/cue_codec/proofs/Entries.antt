@@ -2,14 +2,14 @@
 use Rattle.std.proofs.Common.{◌≡◌, List, [], ◌∷◌, ◌++◌, append_assoc, map, Some, None, refl, ap, ◌∙◌}
 use Rattle.cue_lattice.specs.Path.{Step}
 use Rattle.cue_row.specs.declared.parts.RowParts.{RowParts as Row}
-use Rattle.cue_table.specs.Tree.{Tree, node, Children, none, child, no_rest, onward, row_of, below, rest_of, rest_tree, children_of}
+use Rattle.cue_table.specs.Tree.{Tree, node, Children, none, child, no_rest, onward, row_of, below, rest_below, rest_at, children_of}
 use Rattle.cue_table.specs.Inner.Walks.{first_child}
 use Rattle.cue_codec.specs.declared.version.Version.{Version}
-use Rattle.cue_codec.specs.Entry.{at, to_rest, Entry, behind, fixed_in, entries_of, entries_below, entries_onward}
+use Rattle.cue_codec.specs.Entry.{at, to_rest, Entry, one_step_below, fixed_in, entries_of, entries_below, entries_onward}
 
 -- the rows below a tree's own place
 abbrev pub others_of : Version → Tree Row → List Entry
-others_of version tree = entries_below version (below tree) ++ entries_onward version (rest_of tree)
+others_of version tree = entries_below version (below tree) ++ entries_onward version (rest_below tree)
 
 -- the row at a tree's own place
 abbrev pub own_entry : Version → Tree Row → Row → Entry
@@ -27,18 +27,18 @@ entries_begin_below version (node (Some here) children rest) e = cc
 
 pub entries_more :
     (version : Version) (step : Step) (tree : Tree Row) (rest left : Children Row) (more : List Entry) → children_of rest ≡ (step, tree) ∷ children_of left
-    → entries_below version rest ++ more ≡ map (behind (at step)) (entries_of version tree) ++ (entries_below version left ++ more)
+    → entries_below version rest ++ more ≡ map (one_step_below (at step)) (entries_of version tree) ++ (entries_below version left ++ more)
 entries_more version step tree rest left more e =
-    ap (λ cs. entries_below version cs ++ more) (first_child rest left step tree e) ∙ append_assoc (map (behind (at step)) (entries_of version tree)) (entries_below version left) more
+    ap (λ cs. entries_below version cs ++ more) (first_child rest left step tree e) ∙ append_assoc (map (one_step_below (at step)) (entries_of version tree)) (entries_below version left) more
 
 pub entries_end : (version : Version) (rest : Children Row) (more : List Entry) → children_of rest ≡ [] → entries_below version rest ++ more ≡ more
 entries_end version none more e = refl
 entries_end version (child step tree rest) more e = cc
 
-pub entries_rest : (version : Version) (tree branch : Tree Row) → rest_tree (rest_of tree) ≡ Some branch → entries_onward version (rest_of tree) ≡ map (behind to_rest) (entries_of version branch)
+pub entries_rest : (version : Version) (tree branch : Tree Row) → rest_at (rest_below tree) ≡ Some branch → entries_onward version (rest_below tree) ≡ map (one_step_below to_rest) (entries_of version branch)
 entries_rest version (node row children no_rest) branch e = cc
-entries_rest version (node row children (onward n tree)) branch e = let same : tree ≡ branch = cc in ap (λ t. map (behind to_rest) (entries_of version t)) same
+entries_rest version (node row children (onward n tree)) branch e = let same : tree ≡ branch = cc in ap (λ t. map (one_step_below to_rest) (entries_of version t)) same
 
-pub entries_no_rest : (version : Version) (tree : Tree Row) → rest_tree (rest_of tree) ≡ None → entries_onward version (rest_of tree) ≡ []
+pub entries_no_rest : (version : Version) (tree : Tree Row) → rest_at (rest_below tree) ≡ None → entries_onward version (rest_below tree) ≡ []
 entries_no_rest version (node row children no_rest) e = refl
 entries_no_rest version (node row children (onward n tree)) e = cc

@@ -4,16 +4,16 @@ use Rattle.cue_row.specs.declared.parts.RowParts.{RowParts as Row}
 use Rattle.cue_table.specs.Slots as slots
 use Rattle.cue_table.specs.declared.slot.Slot as program
 use Rattle.cue_table.specs.SlotsOfCode.{slot_of}
-use Rattle.cue_codec.specs.Entry.{StateStep, at, to_rest, StatePath, Entry, told, told_place, told_row, without_index}
-use Rattle.cue_codec.specs.Known.{slot_with, place_with, known_with, known_after, rows_with, IsKnown}
+use Rattle.cue_codec.specs.Entry.{StateStep, at, to_rest, StatePath, Entry, step_kind, path_of_place, entry_of_row, without_index}
+use Rattle.cue_codec.specs.Known.{slot_with, place_with, known_with, known_after, rows_with, IsIndexKnown}
 use Rattle.cue_codec.proofs.StatePaths.{step_in, steps_in}
 
 -- the place of a path is told as the path
-pub told_slot : (n : ℕ) (step : StateStep) → told (slot_with n step) ≡ step
+pub told_slot : (n : ℕ) (step : StateStep) → step_kind (slot_with n step) ≡ step
 told_slot n (at step) = refl
 told_slot n to_rest = refl
 
-pub told_with : (known : List ℕ) (path : StatePath) → told_place (place_with known path) ≡ path
+pub told_with : (known : List ℕ) (path : StatePath) → path_of_place (place_with known path) ≡ path
 told_with known [] = refl
 told_with [] (step ∷ path) = λ i. told_slot 0 step i ∷ told_with [] path i
 told_with (n ∷ known) (step ∷ path) = λ i. told_slot n step i ∷ told_with known path i
@@ -40,7 +40,7 @@ known_set (n ∷ known) (suc depth) fixed h = ap (λ (k : List ℕ). n ∷ k) (k
 -- ---- the slots of the program
 
 -- the first slots of a place with known numbers
-pub known_front : (known : List ℕ) (items : List program.Slot) (n : ℕ) → IsKnown known (map slot_of items) → IsKnown known (map slot_of (take n items))
+pub known_front : (known : List ℕ) (items : List program.Slot) (n : ℕ) → IsIndexKnown known (map slot_of items) → IsIndexKnown known (map slot_of (take n items))
 known_front known items zero h = refl
 known_front known [] (suc n) h = refl
 known_front [] (x ∷ items) (suc n) h =
@@ -53,10 +53,10 @@ known_front (k ∷ known) (x ∷ items) (suc n) h =
     λ i. first i ∷ known_front known items n others i
 
 -- one more slot
-pub known_more : (known : List ℕ) (items : List program.Slot) (x : program.Slot) → IsKnown known (map slot_of items) → slot_of x ≡ slot_with (get_or known (length items) 0) (step_in x) → IsKnown known (map slot_of (items ++ x ∷ []))
+pub known_more : (known : List ℕ) (items : List program.Slot) (x : program.Slot) → IsIndexKnown known (map slot_of items) → slot_of x ≡ slot_with (get_or known (length items) 0) (step_in x) → IsIndexKnown known (map slot_of (items ++ x ∷ []))
 known_more known [] x h e = one known e
   where
-    one : (k : List ℕ) → slot_of x ≡ slot_with (get_or k 0 0) (step_in x) → IsKnown k (slot_of x ∷ [])
+    one : (k : List ℕ) → slot_of x ≡ slot_with (get_or k 0 0) (step_in x) → IsIndexKnown k (slot_of x ∷ [])
     one [] e = λ i. e i ∷ []
     one (n ∷ k) e = λ i. e i ∷ []
 known_more [] (y ∷ items) x h e =
@@ -87,7 +87,7 @@ rows_split known (first ∷ entries) others =
     ap (λ (rows : List (slots.Place × Row)). (place_with known first.path, first.row) ∷ rows) (rows_split (known_with known (length first.path) first.fixed) entries others)
 
 -- the places of rows tell their paths
-pub entries_placed : (known : List ℕ) (entries : List Entry) → map told_row (rows_with known entries) ≡ map without_index entries
+pub entries_placed : (known : List ℕ) (entries : List Entry) → map entry_of_row (rows_with known entries) ≡ map without_index entries
 entries_placed known [] = refl
 entries_placed known (entry ∷ entries) =
     λ i. (told_with known entry.path i, entry.row) ∷ entries_placed (known_with known (length entry.path) entry.fixed) entries i

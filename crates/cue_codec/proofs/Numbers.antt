@@ -13,7 +13,7 @@ use Rattle.cue_codec.specs.declared.version.Version.TheVariants as versions
 use Rattle.cue_codec.specs.Parts.{Lengths, integer_bytes, piece_bytes, text_bytes, most_bytes, index_bytes, lengths_bytes}
 use Rattle.cue_codec.specs.Inner.Reading.{IsNoneRead}
 use Rattle.cue_codec.specs.declared.unread.Unread.{Unread}
-use Rattle.cue_codec.specs.Reading.{Begins, BeginsNone, number_at, IsPiece, IsWord, IsMost, IsIndex, AreWideLengths}
+use Rattle.cue_codec.specs.Reading.{ReadsItem, ReadsNoItem, number_at, IsPieceBytes, IsWord, IsMost, IsIndex, AreWideLengths}
 use Rattle.cue_codec.proofs.Codes.{OneItem, front_more, unread_so, same_fronts, wide16, wide32, wide64, one_number}
 
 abbrev pub IsBytes : List ℕ → Type 0
@@ -105,14 +105,14 @@ one_integer m n r s hm hn e =
     let f = one_number w64 (2 ^ 64) wide64 (cast_unsigned w64 m) (cast_unsigned w64 n) r s (unsigned_below m hm) (unsigned_below n hn) e in
     (sym (to_z-of_z w64 m (fits_from_integer m hm)) ∙ ap (cast_signed w64) f.0 ∙ to_z-of_z w64 n (fits_from_integer n hn), f.1)
 
-pub integer_found : (bytes rest : List ℕ) (n : ℕ) (r : ℤ) → IsBytes bytes → Some (n, rest) ≡ number_at w64 bytes → r ≡ cast_signed w64 n → Begins IsInteger integer_bytes (cast_signed w64 (cast_unsigned w64 r)) bytes rest
+pub integer_found : (bytes rest : List ℕ) (n : ℕ) (r : ℤ) → IsBytes bytes → Some (n, rest) ≡ number_at w64 bytes → r ≡ cast_signed w64 n → ReadsItem IsInteger integer_bytes (cast_signed w64 (cast_unsigned w64 r)) bytes rest
 unfolding integer_bytes
 integer_found bytes rest n r fits e is =
     let t = number_takes w64 (2 ^ 64) read64 bytes n rest fits e in
     let unsigned : cast_unsigned w64 (cast_signed w64 n) ≡ n = of_z-to_z w64 n t.1 in
     let back : cast_signed w64 (cast_unsigned w64 r) ≡ cast_signed w64 n = ap (λ (z : ℤ). cast_signed w64 (cast_unsigned w64 z)) is ∙ ap (cast_signed w64) unsigned in
-    let found : Begins IsInteger integer_bytes (cast_signed w64 n) bytes rest = record { value = IsInteger-cast n t.1; parts = t.0 ∙ ap (λ (m : ℕ). to_be_bytes w64 m ++ rest) (sym unsigned) } in
-    subst (λ (z : ℤ). Begins IsInteger integer_bytes z bytes rest) (sym back) found
+    let found : ReadsItem IsInteger integer_bytes (cast_signed w64 n) bytes rest = record { value = IsInteger-cast n t.1; parts = t.0 ∙ ap (λ (m : ℕ). to_be_bytes w64 m ++ rest) (sym unsigned) } in
+    subst (λ (z : ℤ). ReadsItem IsInteger integer_bytes z bytes rest) (sym back) found
 
 length-integer_bytes : (n : ℤ) → length (integer_bytes n) ≡ 8
 unfolding integer_bytes
@@ -127,31 +127,31 @@ unfolding piece_bytes
 length-piece_bytes piece = omega (arith, length-append (integer_bytes piece.0) (integer_bytes piece.1), length-integer_bytes piece.0, length-integer_bytes piece.1)
 
 -- a piece in front tells itself and the rest
-pub one_piece : OneItem IsPiece piece_bytes
+pub one_piece : OneItem IsPieceBytes piece_bytes
 one_piece p q r s hp hq e =
     let f = one_integer p.0 q.0 (integer_bytes p.1 ++ r) (integer_bytes q.1 ++ s) hp.0 hq.0 (sym (piece_parts p r) ∙ e ∙ piece_parts q s) in
     let g = one_integer p.1 q.1 r s hp.1 hq.1 f.1 in
     (λ i. (f.0 i, g.0 i), g.1)
 
-pub piece_short : (bytes : List ℕ) → length bytes < 16 → BeginsNone IsPiece piece_bytes bytes
+pub piece_short : (bytes : List ℕ) → length bytes < 16 → ReadsNoItem IsPieceBytes piece_bytes bytes
 piece_short bytes lt = λ p r h e. omega (arith, lt, ap length e, length-append (piece_bytes p) r, length-piece_bytes p)
 
-pub piece_half : (bytes rest : List ℕ) (first : ℤ) → Begins IsInteger integer_bytes first bytes rest → length rest < 8 → length bytes < 16
+pub piece_half : (bytes rest : List ℕ) (first : ℤ) → ReadsItem IsInteger integer_bytes first bytes rest → length rest < 8 → length bytes < 16
 piece_half bytes rest first b lt = omega (arith, lt, ap length b.parts, length-append (integer_bytes first) rest, length-integer_bytes first)
 
 pub same_integer : (n : ℤ) → IsInteger n → cast_signed w64 (cast_unsigned w64 n) ≡ n
 same_integer n h = to_z-of_z w64 n (fits_from_integer n h)
 
-pub piece_found : (bytes middle rest : List ℕ) (first last : ℤ) → Begins IsInteger integer_bytes first bytes middle → Begins IsInteger integer_bytes last middle rest
-    → Begins IsPiece piece_bytes (cast_signed w64 (cast_unsigned w64 first), cast_signed w64 (cast_unsigned w64 last)) bytes rest
+pub piece_found : (bytes middle rest : List ℕ) (first last : ℤ) → ReadsItem IsInteger integer_bytes first bytes middle → ReadsItem IsInteger integer_bytes last middle rest
+    → ReadsItem IsPieceBytes piece_bytes (cast_signed w64 (cast_unsigned w64 first), cast_signed w64 (cast_unsigned w64 last)) bytes rest
 piece_found bytes middle rest first last a b =
-    let found : Begins IsPiece piece_bytes (first, last) bytes rest = record {
+    let found : ReadsItem IsPieceBytes piece_bytes (first, last) bytes rest = record {
       value = (a.value, b.value);
       parts = a.parts ∙ ap (λ (t : List ℕ). integer_bytes first ++ t) b.parts ∙ sym (piece_parts (first, last) rest);
     } in
     let one = same_integer first a.value in
     let two = same_integer last b.value in
-    subst (λ (p : ℤ × ℤ). Begins IsPiece piece_bytes p bytes rest) (λ i. (sym one i, sym two i)) found
+    subst (λ (p : ℤ × ℤ). ReadsItem IsPieceBytes piece_bytes p bytes rest) (λ i. (sym one i, sym two i)) found
 
 -- ---- texts
 
@@ -169,7 +169,7 @@ one_text t u r s ht hu e =
     let f = one_number w16 (2 ^ 16) wide16 (length t) (length u) (t ++ r) (u ++ s) (let k = ht.short in omega (arith, k)) (let k = hu.short in omega (arith, k)) (sym (text_parts t r) ∙ e ∙ text_parts u s) in
     same_fronts t u r s f.0 f.1
 
-pub text_short : (bytes : List ℕ) → None ≡ number_at w16 bytes → BeginsNone IsWord text_bytes bytes
+pub text_short : (bytes : List ℕ) → None ≡ number_at w16 bytes → ReadsNoItem IsWord text_bytes bytes
 text_short bytes none = λ t r h e.
     omega (arith, number_missing w16 bytes none, ap length (e ∙ text_parts t r), length-append (to_be_bytes w16 (length t)) (t ++ r), wide16.len (length t))
 
@@ -178,24 +178,24 @@ after_length bytes rest n fits e t r h is =
     let found = number_takes w16 (2 ^ 16) read16 bytes n rest fits e in
     one_number w16 (2 ^ 16) wide16 (length t) n (t ++ r) rest (let k = h.short in omega (arith, k)) found.1 (sym (text_parts t r) ∙ sym is ∙ found.0)
 
-pub text_cut : (bytes rest : List ℕ) (n : ℕ) → IsBytes bytes → Some (n, rest) ≡ number_at w16 bytes → length rest < n → BeginsNone IsWord text_bytes bytes
+pub text_cut : (bytes rest : List ℕ) (n : ℕ) → IsBytes bytes → Some (n, rest) ≡ number_at w16 bytes → length rest < n → ReadsNoItem IsWord text_bytes bytes
 text_cut bytes rest n fits e lt = λ t r h is.
     let a = after_length bytes rest n fits e t r h is in
     omega (arith, lt, a.0, ap length a.1, length-append t r)
 
-pub text_wrong : (bytes rest front after more : List ℕ) (n : ℕ) → IsBytes bytes → Some (n, rest) ≡ number_at w16 bytes → rest ≡ front ++ after → length front ≡ n → (IsUtf8 front → ⊥) → BeginsNone IsWord text_bytes (bytes ++ more)
+pub text_wrong : (bytes rest front after more : List ℕ) (n : ℕ) → IsBytes bytes → Some (n, rest) ≡ number_at w16 bytes → rest ≡ front ++ after → length front ≡ n → (IsUtf8 front → ⊥) → ReadsNoItem IsWord text_bytes (bytes ++ more)
 text_wrong bytes rest front after more n fits e parts len bad = λ t r h is.
     let found = number_takes w16 (2 ^ 16) read16 bytes n rest fits e in
     let whole = front_more bytes (to_be_bytes w16 n) rest more found.0 in
     let a = one_number w16 (2 ^ 16) wide16 (length t) n (t ++ r) (rest ++ more) (let k = h.short in omega (arith, k)) found.1 (sym (text_parts t r) ∙ sym is ∙ whole) in
     bad (subst IsUtf8 (same_fronts t front r (after ++ more) (a.0 ∙ sym len) (a.1 ∙ front_more rest front after more parts)).0 h.utf8)
 
-pub text_found : (bytes rest front after text : List ℕ) (n : ℕ) → IsBytes bytes → Some (n, rest) ≡ number_at w16 bytes → rest ≡ front ++ after → length front ≡ n → IsUtf8 front → text ≡ front → Begins IsWord text_bytes text bytes after
+pub text_found : (bytes rest front after text : List ℕ) (n : ℕ) → IsBytes bytes → Some (n, rest) ≡ number_at w16 bytes → rest ≡ front ++ after → length front ≡ n → IsUtf8 front → text ≡ front → ReadsItem IsWord text_bytes text bytes after
 text_found bytes rest front after text n fits e parts len good same =
     let found = number_takes w16 (2 ^ 16) read16 bytes n rest fits e in
     let whole : bytes ≡ text_bytes front ++ after = found.0 ∙ ap (λ (t : List ℕ). to_be_bytes w16 n ++ t) parts ∙ ap (λ (k : ℕ). to_be_bytes w16 k ++ (front ++ after)) (sym len) ∙ sym (text_parts front after) in
-    let b : Begins IsWord text_bytes front bytes after = record { value = record { utf8 = good; short = omega (arith, len, found.1) }; parts = whole } in
-    subst (λ (t : List ℕ). Begins IsWord text_bytes t bytes after) (sym same) b
+    let b : ReadsItem IsWord text_bytes front bytes after = record { value = record { utf8 = good; short = omega (arith, len, found.1) }; parts = whole } in
+    subst (λ (t : List ℕ). ReadsItem IsWord text_bytes t bytes after) (sym same) b
 
 -- a text that is known, after its length
 pub text_again : (bytes rest after text : List ℕ) (n : ℕ) → IsBytes bytes → Some (n, rest) ≡ number_at w16 bytes → n ≡ length text → rest ≡ text ++ after → bytes ≡ text_bytes text ++ after
@@ -204,27 +204,27 @@ text_again bytes rest after text n fits e len parts =
 
 -- ---- lengths
 
-pub most_empty : (bytes : List ℕ) → length bytes ≡ 0 → BeginsNone IsMost most_bytes bytes
+pub most_empty : (bytes : List ℕ) → length bytes ≡ 0 → ReadsNoItem IsMost most_bytes bytes
 unfolding most_bytes
 most_empty bytes none None r h e = omega (arith, none, ap length e)
 most_empty bytes none (Some m) r h e = omega (arith, none, ap length e)
 
-pub most_tag : (bytes rest : List ℕ) (tag : ℕ) → bytes ≡ tag ∷ rest → 2 ≤ tag → BeginsNone IsMost most_bytes bytes
+pub most_tag : (bytes rest : List ℕ) (tag : ℕ) → bytes ≡ tag ∷ rest → 2 ≤ tag → ReadsNoItem IsMost most_bytes bytes
 unfolding most_bytes
 most_tag bytes rest tag is more None r h e = omega (arith, more, ap (λ (t : List ℕ). get_or t 0 0) (sym is ∙ e))
 most_tag bytes rest tag is more (Some m) r h e = omega (arith, more, ap (λ (t : List ℕ). get_or t 0 0) (sym is ∙ e))
 
-pub most_cut : (bytes rest : List ℕ) → bytes ≡ 1 ∷ rest → None ≡ number_at w32 rest → BeginsNone IsMost most_bytes bytes
+pub most_cut : (bytes rest : List ℕ) → bytes ≡ 1 ∷ rest → None ≡ number_at w32 rest → ReadsNoItem IsMost most_bytes bytes
 unfolding most_bytes
 most_cut bytes rest is none None r h e = omega (arith, ap (λ (t : List ℕ). get_or t 0 0) (sym is ∙ e))
 most_cut bytes rest is none (Some m) r h e =
     omega (arith, number_missing w32 rest none, ap length (sym is ∙ e), length-append (to_be_bytes w32 m) r, wide32.len m)
 
-pub most_without : (bytes rest : List ℕ) → bytes ≡ 0 ∷ rest → Begins IsMost most_bytes None bytes rest
+pub most_without : (bytes rest : List ℕ) → bytes ≡ 0 ∷ rest → ReadsItem IsMost most_bytes None bytes rest
 unfolding most_bytes
 most_without bytes rest is = record { value = tt; parts = is }
 
-pub most_found : (bytes rest after : List ℕ) (m : ℕ) → IsBytes rest → bytes ≡ 1 ∷ rest → Some (m, after) ≡ number_at w32 rest → Begins IsMost most_bytes (Some m) bytes after
+pub most_found : (bytes rest after : List ℕ) (m : ℕ) → IsBytes rest → bytes ≡ 1 ∷ rest → Some (m, after) ≡ number_at w32 rest → ReadsItem IsMost most_bytes (Some m) bytes after
 unfolding most_bytes
 most_found bytes rest after m fits is e =
     let found = number_takes w32 (2 ^ 32) read32 rest m after fits e in
@@ -248,12 +248,12 @@ unfolding index_bytes
 one_index versions.First a b r s p q e = (p ∙ sym q, e)
 one_index versions.Second a b r s p q e = one_number w32 (2 ^ 32) wide32 a b r s p q e
 
-pub index_cut : (bytes : List ℕ) → None ≡ number_at w32 bytes → BeginsNone (IsIndex versions.Second) (index_bytes versions.Second) bytes
+pub index_cut : (bytes : List ℕ) → None ≡ number_at w32 bytes → ReadsNoItem (IsIndex versions.Second) (index_bytes versions.Second) bytes
 unfolding index_bytes
 index_cut bytes none = λ a r h e.
     omega (arith, number_missing w32 bytes none, ap length e, length-append (to_be_bytes w32 a) r, wide32.len a)
 
-pub index_found : (bytes rest : List ℕ) (fixed : ℕ) → IsBytes bytes → Some (fixed, rest) ≡ number_at w32 bytes → Begins (IsIndex versions.Second) (index_bytes versions.Second) fixed bytes rest
+pub index_found : (bytes rest : List ℕ) (fixed : ℕ) → IsBytes bytes → Some (fixed, rest) ≡ number_at w32 bytes → ReadsItem (IsIndex versions.Second) (index_bytes versions.Second) fixed bytes rest
 unfolding index_bytes
 index_found bytes rest fixed fits is =
     let found = number_takes w32 (2 ^ 32) read32 bytes fixed rest fits is in
@@ -275,7 +275,7 @@ one_lengths version a b r s p q e =
     let h = one_index version a.2 b.2 r s p.2 q.2 g.1 in
     (λ i. (f.0 i, g.0 i, h.0 i), h.1)
 
-pub lengths_short : (version : Version) (bytes : List ℕ) → None ≡ number_at w32 bytes → BeginsNone (AreWideLengths version) (lengths_bytes version) bytes
+pub lengths_short : (version : Version) (bytes : List ℕ) → None ≡ number_at w32 bytes → ReadsNoItem (AreWideLengths version) (lengths_bytes version) bytes
 lengths_short version bytes none = λ a r h e.
     let rest = most_bytes a.1 ++ (index_bytes version a.2 ++ r) in
     omega (arith, number_missing w32 bytes none, ap length (e ∙ lengths_parts version a r), length-append (to_be_bytes w32 a.0) rest, wide32.len a.0)
@@ -284,22 +284,22 @@ behind_least : (version : Version) (bytes rest : List ℕ) (least : ℕ) → lea
 behind_least version bytes rest least small is a r h e =
     sym (one_number w32 (2 ^ 32) wide32 a.0 least (most_bytes a.1 ++ (index_bytes version a.2 ++ r)) rest h.0 small (sym (lengths_parts version a r) ∙ sym e ∙ is)).1
 
-pub lengths_cut : (version : Version) (why : Unread) (bytes rest : List ℕ) (least : ℕ) → IsBytes bytes → Some (least, rest) ≡ number_at w32 bytes → IsNoneRead why (BeginsNone IsMost most_bytes) rest → IsNoneRead why (BeginsNone (AreWideLengths version) (lengths_bytes version)) bytes
+pub lengths_cut : (version : Version) (why : Unread) (bytes rest : List ℕ) (least : ℕ) → IsBytes bytes → Some (least, rest) ≡ number_at w32 bytes → IsNoneRead why (ReadsNoItem IsMost most_bytes) rest → IsNoneRead why (ReadsNoItem (AreWideLengths version) (lengths_bytes version)) bytes
 lengths_cut version why bytes rest least fits is =
     let found = number_takes w32 (2 ^ 32) read32 bytes least rest fits is in
-    unread_so why (BeginsNone IsMost most_bytes) (BeginsNone (AreWideLengths version) (lengths_bytes version)) rest bytes
+    unread_so why (ReadsNoItem IsMost most_bytes) (ReadsNoItem (AreWideLengths version) (lengths_bytes version)) rest bytes
     (λ more none a r h e.
     none a.1 (index_bytes version a.2 ++ r) h.1 (behind_least version (bytes ++ more) (rest ++ more) least found.1 (front_more bytes (to_be_bytes w32 least) rest more found.0) a r h e))
 
-pub lengths_end : (version : Version) (bytes rest after : List ℕ) (least : ℕ) (most : Option ℕ) → IsBytes bytes → Some (least, rest) ≡ number_at w32 bytes → Begins IsMost most_bytes most rest after → BeginsNone (IsIndex version) (index_bytes version) after
-    → BeginsNone (AreWideLengths version) (lengths_bytes version) bytes
+pub lengths_end : (version : Version) (bytes rest after : List ℕ) (least : ℕ) (most : Option ℕ) → IsBytes bytes → Some (least, rest) ≡ number_at w32 bytes → ReadsItem IsMost most_bytes most rest after → ReadsNoItem (IsIndex version) (index_bytes version) after
+    → ReadsNoItem (AreWideLengths version) (lengths_bytes version) bytes
 lengths_end version bytes rest after least most fits is b none = λ a r h e.
     let found = number_takes w32 (2 ^ 32) read32 bytes least rest fits is in
     let f = one_most most a.1 after (index_bytes version a.2 ++ r) b.value h.1 (sym b.parts ∙ behind_least version bytes rest least found.1 found.0 a r h e) in
     none a.2 r h.2 f.1
 
-pub lengths_found : (version : Version) (bytes rest after end : List ℕ) (least : ℕ) (most : Option ℕ) (fixed : ℕ) → IsBytes bytes → Some (least, rest) ≡ number_at w32 bytes → Begins IsMost most_bytes most rest after → Begins (IsIndex version) (index_bytes version) fixed after end
-    → Begins (AreWideLengths version) (lengths_bytes version) (least, most, fixed) bytes end
+pub lengths_found : (version : Version) (bytes rest after end : List ℕ) (least : ℕ) (most : Option ℕ) (fixed : ℕ) → IsBytes bytes → Some (least, rest) ≡ number_at w32 bytes → ReadsItem IsMost most_bytes most rest after → ReadsItem (IsIndex version) (index_bytes version) fixed after end
+    → ReadsItem (AreWideLengths version) (lengths_bytes version) (least, most, fixed) bytes end
 lengths_found version bytes rest after end least most fixed fits is b c =
     let found = number_takes w32 (2 ^ 32) read32 bytes least rest fits is in
     record {

@@ -3,11 +3,11 @@ use Rattle.std.proofs.Common.{◌≡◌, ℕ, ◌+◌, ◌-◌, ◌≤◌, List,
 use Rattle.std.proofs.lemmas.List.{length-append, length-take, take_at, take-take, take-append-drop}
 use Rattle.cue_codec.specs.declared.version.Version.{Version}
 use Rattle.cue_codec.specs.Decoding.{NoRows}
-use Rattle.cue_codec.specs.Inner.Drafting.{RowsRead, BeginsNoRows}
+use Rattle.cue_codec.specs.Inner.Drafting.{RowsRead, IsNoRowsPrefix}
 use Rattle.cue_codec.specs.Inner.Pieces.{with_bytes, IsReadAgain, IsTaken}
 
 -- where no rows begin with bytes, none do with more
-begins_on : (version : Version) (count : ℕ) (bytes more : List ℕ) → BeginsNoRows version count bytes → BeginsNoRows version count (bytes ++ more)
+begins_on : (version : Version) (count : ℕ) (bytes more : List ℕ) → IsNoRowsPrefix version count bytes → IsNoRowsPrefix version count (bytes ++ more)
 begins_on version count bytes more none = λ others. subst (NoRows version count) (sym (append_assoc bytes more others)) (none (more ++ others))
 
 module _ (rows new : RowsRead) (unfinished bytes put : List ℕ) (len : ℕ) (few : len ≤ length bytes) (longer : put ≡ unfinished ++ take len bytes) where
@@ -38,4 +38,4 @@ module _ (rows new : RowsRead) (unfinished bytes put : List ℕ) (len : ℕ) (fe
       let back : List ℕ = drop len bytes in
       let same : (rows.bytes ++ put) ++ back ≡ (rows.bytes ++ unfinished) ++ bytes =
       ap (λ t. t ++ back) (ap (λ t. rows.bytes ++ t) longer ∙ sym (append_assoc rows.bytes unfinished front)) ∙ append_assoc (rows.bytes ++ unfinished) front back ∙ ap (λ t. (rows.bytes ++ unfinished) ++ t) (take-append-drop len bytes) in
-      subst (BeginsNoRows rows.version rows.count) same (begins_on rows.version rows.count (rows.bytes ++ put) back none)
+      subst (IsNoRowsPrefix rows.version rows.count) same (begins_on rows.version rows.count (rows.bytes ++ put) back none)

@@ -25,8 +25,8 @@ pub record Entry : Type 0 where
   pub row : Row
 
 -- an entry one step further from the root
-abbrev pub behind : StateStep → Entry → Entry
-behind step entry = record { path = step ∷ entry.path; fixed = entry.fixed; row = entry.row }
+abbrev pub one_step_below : StateStep → Entry → Entry
+one_step_below step entry = record { path = step ∷ entry.path; fixed = entry.fixed; row = entry.row }
 
 -- from which index on the elements are alike, as a version tells it: the first tells nothing of
 -- this, and 0 stands for that
@@ -45,43 +45,43 @@ abbrev mutual
   pub entries_below : Version → Children Row → List Entry
   entries_below version none = []
   entries_below version (child step tree children) =
-      map (behind (at step)) (entries_of version tree) ++ entries_below version children
+      map (one_step_below (at step)) (entries_of version tree) ++ entries_below version children
 
   pub entries_onward : Version → Rest Row → List Entry
   entries_onward version no_rest = []
-  entries_onward version (onward n tree) = map (behind to_rest) (entries_of version tree)
+  entries_onward version (onward n tree) = map (one_step_below to_rest) (entries_of version tree)
 
 -- the first version tells no rest
-abbrev pub IsToldStep : Version → StateStep → Type 0
-IsToldStep version (at step) = Unit {0}
-IsToldStep versions.First to_rest = ⊥
-IsToldStep versions.Second to_rest = Unit {0}
+abbrev pub CanHoldStep : Version → StateStep → Type 0
+CanHoldStep version (at step) = Unit {0}
+CanHoldStep versions.First to_rest = ⊥
+CanHoldStep versions.Second to_rest = Unit {0}
 
 -- a version tells each step of each row of the table
-abbrev pub IsToldIn : Version → Tree Row → Type 0
-IsToldIn version tree =
-    AllByRecursion (λ entry. AllByRecursion (IsToldStep version) entry.path)
+abbrev pub CanHoldTable : Version → Tree Row → Type 0
+CanHoldTable version tree =
+    AllByRecursion (λ entry. AllByRecursion (CanHoldStep version) entry.path)
     (entries_of version tree)
 
 -- a slot without its number
-abbrev pub told : slots.Slot → StateStep
-told (slots.at step) = at step
-told (slots.from n) = to_rest
+abbrev pub step_kind : slots.Slot → StateStep
+step_kind (slots.at step) = at step
+step_kind (slots.from n) = to_rest
 
-abbrev pub told_place : slots.Place → StatePath
-told_place = map told
+abbrev pub path_of_place : slots.Place → StatePath
+path_of_place = map step_kind
 
 -- a row at its place, with its index
 abbrev pub entry_at : slots.Place → ℕ → Row → Entry
-entry_at place fixed row = record { path = told_place place; fixed = fixed; row = row }
+entry_at place fixed row = record { path = path_of_place place; fixed = fixed; row = row }
 
 -- the indexes of the rows of a table
 abbrev pub indexes_of : Version → Tree Row → List ℕ
 indexes_of version tree = map (λ entry. entry.fixed) (entries_of version tree)
 
 -- a row with its place as bytes tell it
-abbrev pub told_row : slots.Place × Row → StatePath × Row
-told_row row = (told_place row.0, row.1)
+abbrev pub entry_of_row : slots.Place × Row → StatePath × Row
+entry_of_row row = (path_of_place row.0, row.1)
 
 -- an entry without its index
 abbrev pub without_index : Entry → StatePath × Row

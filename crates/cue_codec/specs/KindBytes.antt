@@ -4,7 +4,7 @@ use Rattle.std.specs.Prelude.{◌≡◌, ℕ, List, [], ◌∷◌, ◌++◌}
 use Rattle.cue_row.specs.declared.kind.RowKind.{RowKind}
 use Rattle.cue_row.specs.declared.kind.RowKind.TheVariants as kinds
 use Rattle.cue_row.specs.declared.parts.RowParts.{RowParts as Row}
-use Rattle.cue_row.specs.Kinds.{IsKind}
+use Rattle.cue_row.specs.Kinds.{IsRowKind}
 use Rattle.cue_row.specs.Levels.{level_of}
 use Rattle.cue_row.specs.Row.{IsRow}
 use Rattle.cue_codec.specs.declared.version.Version.{Version}
@@ -25,7 +25,7 @@ kind_bytes version kinds.Nothing row fixed =
 -- a row of a kind is its path, its level and the bytes of its kind
 abbrev pub AreBytesOfKinds : Type 0
 AreBytesOfKinds =
-    (version : Version) (entry : Entry) (kind : RowKind) → IsRow entry.row → IsKind entry.row kind
+    (version : Version) (entry : Entry) (kind : RowKind) → IsRow entry.row → IsRowKind entry.row kind
     → row_bytes version entry
     ≡ path_bytes version entry.path
     ++ (level_of entry.row.level ∷ kind_bytes version kind entry.row entry.fixed)

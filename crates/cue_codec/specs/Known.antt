@@ -5,7 +5,7 @@ use Rattle.std.specs.List.{flat_map, AllByRecursion}
 use Rattle.cue_row.specs.declared.parts.RowParts.{RowParts as Row}
 use Rattle.cue_table.specs.Slots as slots
 use Rattle.cue_codec.specs.declared.version.Version.{Version}
-use Rattle.cue_codec.specs.Entry.{StateStep, at, to_rest, StatePath, Entry, told_place}
+use Rattle.cue_codec.specs.Entry.{StateStep, at, to_rest, StatePath, Entry, path_of_place}
 use Rattle.cue_codec.specs.RowBytes.{row_bytes, IsStateRow}
 
 -- the slot of a step below a row whose elements are alike from this index on
@@ -40,21 +40,21 @@ rows_with known (entry ∷ entries) =
     ∷ rows_with (known_with known (length entry.path) entry.fixed) entries
 
 -- the rests of a place have the numbers that are known
-abbrev pub IsKnown : List ℕ → slots.Place → Type 0
-IsKnown known place = place ≡ place_with known (told_place place)
+abbrev pub IsIndexKnown : List ℕ → slots.Place → Type 0
+IsIndexKnown known place = place ≡ place_with known (path_of_place place)
 
 -- before the first row nothing is known
-abbrev pub unknown : List ℕ
-unknown = replicate 65 0
+abbrev pub no_indexes : List ℕ
+no_indexes = replicate 65 0
 
 -- Rows were read from the front of bytes in a version, so many of all are missing: they stand at
 -- these places, with these indexes, and this is known after them.
-pub record AreRead (version : Version) (bytes left : List ℕ) (count missing : ℕ)
+pub record AreRowsRead (version : Version) (bytes left : List ℕ) (count missing : ℕ)
     (rows : List (slots.Place × Row)) (indexes known : List ℕ) : Type 0 where
   pub entries : List Entry
   pub each : AllByRecursion (IsStateRow version) entries
   pub parts : bytes ≡ flat_map (row_bytes version) entries ++ left
   pub counted : length entries + missing ≡ count
-  pub places : rows ≡ rows_with unknown entries
+  pub places : rows ≡ rows_with no_indexes entries
   pub told : indexes ≡ map (λ entry. entry.fixed) entries
-  pub after : known ≡ known_after unknown entries
+  pub after : known ≡ known_after no_indexes entries

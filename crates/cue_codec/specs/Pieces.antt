@@ -6,7 +6,7 @@ use Rattle.cue_row.specs.declared.parts.RowParts.{RowParts as Row}
 use Rattle.cue_table.specs.Tree.{Tree}
 use Rattle.cue_table.specs.Valid.{IsValidTable}
 use Rattle.cue_codec.specs.State.{IsTableBytes}
-use Rattle.cue_codec.specs.Decoding.{IsOtherVersion, IsUndecoded}
+use Rattle.cue_codec.specs.Decoding.{IsOtherStateVersion, IsUndecoded}
 
 -- what a reader has taken in: these bytes so far; or a fault that stands, whatever follows: the
 -- version is another one, or no state begins so; or memory ran out
@@ -18,16 +18,16 @@ pub data Intake : Type 0 where
 
 -- whatever follows these bytes, of any number of bytes that a memory can hold, no valid table has
 -- them
-abbrev pub BeginsNoState : List ℕ → Type 0
-BeginsNoState bytes =
+abbrev pub IsNoStatePrefix : List ℕ → Type 0
+IsNoStatePrefix bytes =
     (tree : Tree Row) (rest : List ℕ) → IsValidTable tree → length (bytes ++ rest) < 2 ^ 64
     → ¬ IsTableBytes (bytes ++ rest) tree
 
 -- what a reader has taken in that was handed all of these bytes
 abbrev pub IsIntake : List ℕ → Intake → Type 0
 IsIntake bytes (so_far taken) = taken ≡ bytes
-IsIntake bytes other_version = IsOtherVersion bytes
-IsIntake bytes no_state = BeginsNoState bytes × ¬ IsOtherVersion bytes
+IsIntake bytes other_version = IsOtherStateVersion bytes
+IsIntake bytes no_state = IsNoStatePrefix bytes × ¬ IsOtherStateVersion bytes
 IsIntake bytes failed = ⊥
 
 -- A piece was taken in: it stands behind the bytes before it, or there is a fault now that stands.
@@ -53,11 +53,11 @@ IsReadTable no_state table = ⊥
 IsReadTable failed table = ⊥
 
 -- why there is no table
-abbrev pub IsUnread : Intake → Kind → Type 0
-IsUnread (so_far bytes) kind = IsUndecoded bytes kind
-IsUnread other_version kind = kind ≡ kinds.Version
-IsUnread no_state kind = kind ≡ kinds.NotState
-IsUnread failed kind = kind ≡ kinds.Failed
+abbrev pub IsIntakeUnread : Intake → Kind → Type 0
+IsIntakeUnread (so_far bytes) kind = IsUndecoded bytes kind
+IsIntakeUnread other_version kind = kind ≡ kinds.Version
+IsIntakeUnread no_state kind = kind ≡ kinds.NotState
+IsIntakeUnread failed kind = kind ≡ kinds.Failed
 
 -- As many bytes as fit into the room, of those that are left, stand at its front; the others are
 -- left.

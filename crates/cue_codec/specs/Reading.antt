@@ -13,14 +13,14 @@ use Rattle.cue_codec.specs.declared.version.Version.TheVariants as versions
 use Rattle.cue_codec.specs.Parts.{Lengths}
 
 -- the bytes of the value stand in front, and after them the rest
-pub record Begins {X : Type 0} (is_value : X → Type 0) (code : X → List ℕ) (item : X)
+pub record ReadsItem {X : Type 0} (is_value : X → Type 0) (code : X → List ℕ) (item : X)
     (bytes rest : List ℕ) : Type 0 where
   pub value : is_value item
   pub parts : bytes ≡ code item ++ rest
 
 -- the bytes of no value stand in front
-abbrev pub BeginsNone : {X : Type 0} → (X → Type 0) → (X → List ℕ) → List ℕ → Type 0
-BeginsNone {X} is_value code bytes =
+abbrev pub ReadsNoItem : {X : Type 0} → (X → Type 0) → (X → List ℕ) → List ℕ → Type 0
+ReadsNoItem {X} is_value code bytes =
     (item : X) (rest : List ℕ) → is_value item → bytes ≡ code item ++ rest → ⊥
 
 -- a number, and the bytes after it
@@ -31,16 +31,16 @@ number_at w bytes =
     else Some (from_be_bytes w (take (byte_len w) bytes), drop (byte_len w) bytes)
 
 -- memory ran out, or this is the reason why the bytes are no state
-abbrev pub IsRefused : Kind → Type 0 → Type 0
-IsRefused kind reason = (kind ≡ kinds.Memory) ⊎ ((kind ≡ kinds.NotState) × reason)
+abbrev pub IsReadRefused : Kind → Type 0 → Type 0
+IsReadRefused kind reason = (kind ≡ kinds.Memory) ⊎ ((kind ≡ kinds.NotState) × reason)
 
 -- texts and labels have at most 65,535 bytes
 abbrev pub IsShort : List ℕ → Type 0
 IsShort text = length text < 2 ^ 16
 
 -- a piece of integers of 64 bits
-abbrev pub IsPiece : ℤ × ℤ → Type 0
-IsPiece piece = IsInteger piece.0 × IsInteger piece.1
+abbrev pub IsPieceBytes : ℤ × ℤ → Type 0
+IsPieceBytes piece = IsInteger piece.0 × IsInteger piece.1
 
 abbrev pub IsShortStep : Step → Type 0
 IsShortStep (label text) = IsShort text

@@ -8,7 +8,7 @@ use Rattle.cue_sets.specs.Pieces.{IsCanonical}
 use Rattle.cue_sets.specs.Texts.{IsAscending}
 use Rattle.cue_scalars.specs.declared.scalar_set.ScalarSet.{ScalarSet}
 use Rattle.cue_codec.specs.declared.version.Version.{Version}
-use Rattle.cue_codec.specs.Entry.{StateStep, at, to_rest, StatePath, IsToldStep}
+use Rattle.cue_codec.specs.Entry.{StateStep, at, to_rest, StatePath, CanHoldStep}
 use Rattle.cue_codec.specs.Reading.{IsWord, AreCounted}
 
 abbrev pub IsStateIntegers : List (ℤ × ℤ) → Type 0
@@ -32,7 +32,7 @@ AreStateLabels (Some labels) = AreStateTexts labels
 abbrev pub IsStateStep : Version → StateStep → Type 0
 IsStateStep version (at (label text)) = IsWord text
 IsStateStep version (at (index number)) = number < 2 ^ 32
-IsStateStep version to_rest = IsToldStep version to_rest
+IsStateStep version to_rest = CanHoldStep version to_rest
 
 abbrev pub IsStatePath : Version → StatePath → Type 0
 IsStatePath version path = AllByRecursion (IsStateStep version) path × (length path ≤ step_limit)

@@ -13,5 +13,5 @@ abbrev pub IsNoVersion : ℕ → Type 0
 IsNoVersion byte = (version : Version) → ¬ (byte ≡ version_byte version)
 
 -- the version that is written
-abbrev pub written : Version
-written = versions.Second
+abbrev pub written_version : Version
+written_version = versions.Second

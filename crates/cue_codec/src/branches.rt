@@ -8,7 +8,7 @@ ghost use Rattle.cue_table.specs.Inner.ValidWalk.{IsSound};
 ghost use Rattle.cue_table.specs.StepsOfCode.{span_of};
 ghost use Rattle.cue_codec.specs.Entry.{entries_of};
 ghost use Rattle.cue_codec.specs.RowBytes.{row_bytes_from, IsShortRow};
-ghost use Rattle.cue_codec.specs.Version.{written};
+ghost use Rattle.cue_codec.specs.Version.{written_version};
 ghost use Rattle.cue_codec.specs.Inner.Spans.{branch_count};
 ghost use Rattle.cue_codec.specs.Inner.Ways.{tree_bytes, branches_bytes, branches_of};
 
@@ -28,32 +28,32 @@ pub fn branch_count(span: Span) -> u64
 }
 
 /// The sum of two counts of rows. This takes no memory: an error says that it is beyond any.
-fn plus(count: u64, more: u64) -> Result<u64, Memory>
+fn add_counts(count: u64, more: u64) -> Result<u64, Memory>
     ensures count { IfOk result (λ sum. sum ≡ count + more) }
     ensures beyond { IfErr result (λ memory. 2 ^ 64 ≤ count + more) }
 {
     match count.checked_add(more) {
         Some(sum) => Ok(sum),
-        None => Err(Memory::beyond(count, more)),
+        None => Err(Memory::too_many(count, more)),
     }
 }
 
 /// So many times a count of rows. This takes no memory: an error says that it is beyond any.
-fn times(count: u64, each: u64) -> Result<u64, Memory>
+fn multiply_counts(count: u64, each: u64) -> Result<u64, Memory>
     ensures count { IfOk result (λ product. product ≡ count * each) }
     ensures beyond { IfErr result (λ memory. 2 ^ 64 ≤ count * each) }
 {
     match count.checked_mul(each) {
         Some(product) => Ok(product),
-        None => Err(Memory::beyond(u64::MAX, each)),
+        None => Err(Memory::too_many(u64::MAX, each)),
     }
 }
 
 /// How many rows a branch has. What is kept as one is counted once. This takes no memory: an error
 /// says that there are more rows than 64 bits tell, and than any memory holds.
 pub fn row_count(branch: &Branch<Row>) -> Result<u64, Memory>
-    ensures count { IfOk result (λ count. count ≡ length (entries_of written branch.now)) }
-    ensures beyond { IfErr result (λ memory. 2 ^ 64 ≤ length (entries_of written branch.now)) }
+    ensures count { IfOk result (λ count. count ≡ length (entries_of written_version branch.now)) }
+    ensures beyond { IfErr result (λ memory. 2 ^ 64 ≤ length (entries_of written_version branch.now)) }
 {
     let mut count = match branch.row() {
         None => 0,
@@ -61,14 +61,14 @@ pub fn row_count(branch: &Branch<Row>) -> Result<u64, Memory>
     };
     for (span, below) in branch.spans() {
         let each = row_count(&below)?;
-        let rows = times(branch_count(span), each)?;
-        count = plus(count, rows)?;
+        let rows = multiply_counts(branch_count(span), each)?;
+        count = add_counts(count, rows)?;
     }
     match branch.rest() {
         None => Ok(count),
         Some(rest) => {
             let more = row_count(&rest)?;
-            plus(count, more)
+            add_counts(count, more)
         }
     }
 }
@@ -86,7 +86,7 @@ fn put_own_row(
     requires short { IsShortRow row.now }
     requires fixed { fixed < 2 ^ 32 }
     ensures written { OnOk result (out.new.items ≡ out.old.items
-        ++ row_bytes_from written depth steps.now
+        ++ row_bytes_from written_version depth steps.now
         (record { path = []; fixed = fixed; row = row.now })) }
     ensures kept { OnErr result (StillBegins out.old.items out.new.items) }
 {

@@ -5,10 +5,10 @@ ghost use Rattle.std.specs.Prelude.{IfSome};
 ghost use Rattle.std.specs.Prelude.{IfNone, IsTrue};
 ghost use Rattle.std.specs.Int.{w64, to_be_bytes};
 ghost use Rattle.cue_table.specs.Valid.{IsValidTable};
-ghost use Rattle.cue_codec.specs.State.{mark, table_bytes_in, IsTableBytes};
+ghost use Rattle.cue_codec.specs.State.{state_mark, table_bytes_in, IsTableBytes};
 ghost use Rattle.cue_codec.specs.declared.version.Version.{Version as Versions};
 ghost use Rattle.cue_table.specs.Tree.{empty};
-ghost use Rattle.cue_codec.specs.Decoding.{BeginsAsState, IsUndecoded, IsRejected};
+ghost use Rattle.cue_codec.specs.Decoding.{HasStateHead, IsUndecoded, IsRejected};
 ghost use Rattle.cue_codec.specs.Version.{version_byte};
 
 use crate::drafting::Drafting;
@@ -33,8 +33,8 @@ fn after(byte: u8, bytes: &[u8]) -> Option<&[u8]>
 
 /// What stands after the bytes with which every state begins.
 fn after_mark(bytes: &[u8]) -> Option<&[u8]>
-    ensures some { IfSome result (λ rest. bytes.now ≡ mark ++ rest.now) }
-    ensures none { IfNone result ((rest : List ℕ) → ¬ (bytes.now ≡ mark ++ rest)) }
+    ensures some { IfSome result (λ rest. bytes.now ≡ state_mark ++ rest.now) }
+    ensures none { IfNone result ((rest : List ℕ) → ¬ (bytes.now ≡ state_mark ++ rest)) }
 {
     let rest = after(0xfe, bytes)?;
     let rest = after(0x43, rest)?;
@@ -45,10 +45,10 @@ fn after_mark(bytes: &[u8]) -> Option<&[u8]>
 /// The version, how many rows there are, and the bytes after the head.
 pub fn head_at(bytes: &[u8]) -> Result<(Version, u64, &[u8]), Kind>
     ensures ok { IfOk result (λ x. bytes.now
-        ≡ mark ++ (version_byte x.0 ∷ (to_be_bytes w64 x.1 ++ x.2.now))) }
+        ≡ state_mark ++ (version_byte x.0 ∷ (to_be_bytes w64 x.1 ++ x.2.now))) }
     ensures small { IfOk result (λ x. x.1 < 2 ^ 64) }
     ensures refused { IfErr result (IsRejected bytes.now) }
-    ensures begun { IfErr result (λ kind. ¬ BeginsAsState bytes.now) }
+    ensures begun { IfErr result (λ kind. ¬ HasStateHead bytes.now) }
 {
     let Some(rest) = after_mark(bytes) else {
         return Err(Kind::NotState);

@@ -3,15 +3,15 @@
 ghost use Rattle.std.specs.Prelude.{◌≡◌, ◌<◌, ◌↔◌, ◌∷◌, ◌++◌, [], ℕ, List, IsTrue};
 ghost use Rattle.std.specs.Prelude.{IfOk, IfErr, OnErr, Some};
 ghost use Rattle.cue_lattice.specs.declared.refusal.Kind.TheVariants.{Memory as OutOfMemory};
-ghost use Rattle.cue_row.specs.Row.{Refuses, IsRow};
+ghost use Rattle.cue_row.specs.Row.{RefusesAsked, IsRow};
 ghost use Rattle.cue_table.specs.RowList.{BeginsNoTable};
 ghost use Rattle.cue_codec.specs.Decoding.{AreReadRows, NoRows};
-ghost use Rattle.cue_codec.specs.Inner.Drafting.{BeginsNoRows, rows_in};
+ghost use Rattle.cue_codec.specs.Inner.Drafting.{IsNoRowsPrefix, rows_in};
 ghost use Rattle.cue_codec.specs.Inner.Pieces.{HasNext, HasRows};
-ghost use Rattle.cue_codec.specs.Reading.{IsRefused};
+ghost use Rattle.cue_codec.specs.Reading.{IsReadRefused};
 
 use crate::row_reader::RowReader;
-use crate::telling::tells;
+use crate::telling::has_indexes;
 use crate::unread::Unread;
 use crate::version::Version;
 use cue_lattice::Kind;
@@ -60,8 +60,8 @@ fn append(alloc: Global, draft: &mut Draft<Row>, place: &Place, row: Row) -> Res
     requires { draft.old ≡ Some (rows_in draft.old) }
     ensures ok { IfOk result
         (λ none. draft.new ≡ Some (rows_in draft.old ++ (place.now, row) ∷ [])) }
-    ensures refused { IfErr result (λ kind. IsRefused kind
-        (BeginsNoTable Refuses IsRow (rows_in draft.old ++ (place.now, row) ∷ []))) }
+    ensures refused { IfErr result (λ kind. IsReadRefused kind
+        (BeginsNoTable RefusesAsked IsRow (rows_in draft.old ++ (place.now, row) ∷ []))) }
     ensures err { OnErr result (draft.new ≡ Some []) }
 {
     let kind = match draft.append(place, row) {
@@ -112,8 +112,8 @@ impl Drafting {
     pub fn next(&mut self, reader: &mut RowReader) -> Result<bool, Kind>
         requires { 0 < self.old.left }
         ensures ok { IfOk result (HasNext self.old reader.old self.new reader.new) }
-        ensures refused { IfErr result (λ kind. IsRefused kind
-            (BeginsNoRows self.old.version self.old.count (self.old.bytes ++ reader.old))) }
+        ensures refused { IfErr result (λ kind. IsReadRefused kind
+            (IsNoRowsPrefix self.old.version self.old.count (self.old.bytes ++ reader.old))) }
     {
         let before = mem::replace(&mut self.place, Place::root(self.alloc));
         let (place, fixed, row) = match reader.read(self.alloc, self.version, before, &self.known) {
@@ -172,7 +172,7 @@ impl Drafting {
         requires { self.left ≡ 0 }
         ensures ok { IfOk result (AreReadRows self.version self.count self.bytes) }
         ensures refused { IfErr result
-            (λ kind. IsRefused kind (NoRows self.version self.count self.bytes)) }
+            (λ kind. IsReadRefused kind (NoRows self.version self.count self.bytes)) }
     {
         let Drafting {
             version,
@@ -185,7 +185,7 @@ impl Drafting {
             Ok(None) => return Err(Kind::NotState),
             Err(_) => return Err(Kind::Memory),
         };
-        if !tells(version, &table, indexes.as_slice()) {
+        if !has_indexes(version, &table, indexes.as_slice()) {
             return Err(Kind::NotState);
         }
         Ok(table)
@@ -196,7 +196,7 @@ impl Drafting {
         ensures ok { IfOk result
             (AreReadRows self.version self.count (self.bytes ++ bytes.now)) }
         ensures refused { IfErr result
-            (λ kind. IsRefused kind (NoRows self.version self.count (self.bytes ++ bytes.now))) }
+            (λ kind. IsReadRefused kind (NoRows self.version self.count (self.bytes ++ bytes.now))) }
     {
         let mut rows = self;
         let mut reader = RowReader::new(bytes);

@@ -4,9 +4,9 @@
 ghost use Rattle.std.specs.Prelude.{IfOk, IfErr};
 ghost use Rattle.std.specs.List.{flat_map};
 ghost use Rattle.cue_codec.specs.Parts.{counted_bytes, piece_bytes, text_bytes};
-ghost use Rattle.cue_codec.specs.Reading.{Begins, BeginsNone, AreCounted};
+ghost use Rattle.cue_codec.specs.Reading.{ReadsItem, ReadsNoItem, AreCounted};
 ghost use Rattle.cue_codec.specs.Inner.Reading.{AreSo, IsNoneRead};
-ghost use Rattle.cue_codec.specs.Reading.{IsPiece, IsWord};
+ghost use Rattle.cue_codec.specs.Reading.{IsPieceBytes, IsWord};
 
 use crate::reading::{piece_at, text_at, u64_at};
 use crate::unread::Unread;
@@ -15,10 +15,10 @@ use std::alloc::Global;
 
 /// So many pieces of integers.
 fn each_piece(alloc: Global, count: u64, bytes: &[u8]) -> Result<(Vec<(i64, i64)>, &[u8]), Unread>
-    ensures ok { IfOk result (λ x. Begins (AreSo IsPiece count)
+    ensures ok { IfOk result (λ x. ReadsItem (AreSo IsPieceBytes count)
         (flat_map piece_bytes) x.0.items bytes.now x.1.now) }
     ensures refused { IfErr result (λ why. IsNoneRead why
-        (BeginsNone (AreSo IsPiece count) (flat_map piece_bytes)) bytes.now) }
+        (ReadsNoItem (AreSo IsPieceBytes count) (flat_map piece_bytes)) bytes.now) }
 {
     let mut pieces = Vec::new(alloc);
     let mut rest = bytes;
@@ -36,10 +36,10 @@ fn each_piece(alloc: Global, count: u64, bytes: &[u8]) -> Result<(Vec<(i64, i64)
 
 /// Pieces of integers.
 pub fn pieces_at(alloc: Global, bytes: &[u8]) -> Result<(Vec<(i64, i64)>, &[u8]), Unread>
-    ensures ok { IfOk result (λ x. Begins (AreCounted IsPiece)
+    ensures ok { IfOk result (λ x. ReadsItem (AreCounted IsPieceBytes)
         (counted_bytes piece_bytes) x.0.items bytes.now x.1.now) }
     ensures refused { IfErr result (λ why. IsNoneRead why
-        (BeginsNone (AreCounted IsPiece) (counted_bytes piece_bytes)) bytes.now) }
+        (ReadsNoItem (AreCounted IsPieceBytes) (counted_bytes piece_bytes)) bytes.now) }
 {
     let Some((count, rest)) = u64_at(bytes) else {
         return Err(Unread::Cut);
@@ -50,9 +50,9 @@ pub fn pieces_at(alloc: Global, bytes: &[u8]) -> Result<(Vec<(i64, i64)>, &[u8])
 /// A text.
 #[inline(always)]
 pub fn one_text(alloc: Global, bytes: &[u8]) -> Result<(Text, &[u8]), Unread>
-    ensures ok { IfOk result (λ x. Begins IsWord text_bytes x.0 bytes.now x.1.now) }
+    ensures ok { IfOk result (λ x. ReadsItem IsWord text_bytes x.0 bytes.now x.1.now) }
     ensures refused { IfErr result (λ why. IsNoneRead why
-        (BeginsNone IsWord text_bytes) bytes.now) }
+        (ReadsNoItem IsWord text_bytes) bytes.now) }
 {
     let (text, rest) = text_at(bytes)?;
     let Ok(text) = Text::from_str(alloc, text) else {
@@ -63,10 +63,10 @@ pub fn one_text(alloc: Global, bytes: &[u8]) -> Result<(Text, &[u8]), Unread>
 
 /// So many texts.
 fn each_text(alloc: Global, count: u64, bytes: &[u8]) -> Result<(Vec<Text>, &[u8]), Unread>
-    ensures ok { IfOk result (λ x. Begins (AreSo IsWord count)
+    ensures ok { IfOk result (λ x. ReadsItem (AreSo IsWord count)
         (flat_map text_bytes) x.0.items bytes.now x.1.now) }
     ensures refused { IfErr result (λ why. IsNoneRead why
-        (BeginsNone (AreSo IsWord count) (flat_map text_bytes)) bytes.now) }
+        (ReadsNoItem (AreSo IsWord count) (flat_map text_bytes)) bytes.now) }
 {
     let mut texts = Vec::new(alloc);
     let mut rest = bytes;
@@ -82,10 +82,10 @@ fn each_text(alloc: Global, count: u64, bytes: &[u8]) -> Result<(Vec<Text>, &[u8
 
 /// Texts, in whatever order they stand.
 pub fn texts_at(alloc: Global, bytes: &[u8]) -> Result<(Vec<Text>, &[u8]), Unread>
-    ensures ok { IfOk result (λ x. Begins (AreCounted IsWord)
+    ensures ok { IfOk result (λ x. ReadsItem (AreCounted IsWord)
         (counted_bytes text_bytes) x.0.items bytes.now x.1.now) }
     ensures refused { IfErr result (λ why. IsNoneRead why
-        (BeginsNone (AreCounted IsWord) (counted_bytes text_bytes)) bytes.now) }
+        (ReadsNoItem (AreCounted IsWord) (counted_bytes text_bytes)) bytes.now) }
 {
     let Some((count, rest)) = u64_at(bytes) else {
         return Err(Unread::Cut);

@@ -8,10 +8,10 @@ ghost use Rattle.cue_lattice.specs.Limits.{step_limit};
 ghost use Rattle.cue_row.specs.Steps.{step_of};
 ghost use Rattle.cue_table.specs.SlotsOfCode.{slot_of};
 ghost use Rattle.cue_codec.specs.declared.version.Version.{Version as Versions};
-ghost use Rattle.cue_codec.specs.Entry.{at, told, told_place};
-ghost use Rattle.cue_codec.specs.Known.{slot_with, IsKnown};
+ghost use Rattle.cue_codec.specs.Entry.{at, step_kind, path_of_place};
+ghost use Rattle.cue_codec.specs.Known.{slot_with, IsIndexKnown};
 ghost use Rattle.cue_codec.specs.Parts.{text_bytes, step_bytes, path_bytes};
-ghost use Rattle.cue_codec.specs.Reading.{Begins, BeginsNone};
+ghost use Rattle.cue_codec.specs.Reading.{ReadsItem, ReadsNoItem};
 ghost use Rattle.cue_codec.specs.Inner.Reading.{AreSo, IsNoneRead};
 ghost use Rattle.cue_codec.specs.StateRow.{IsStateStep, IsStatePath};
 
@@ -31,11 +31,11 @@ fn step_at(
     number: u64,
     bytes: &[u8],
 ) -> Result<(Slot, &[u8]), Unread>
-    ensures ok { IfOk result (λ x. Begins (IsStateStep version) (step_bytes version)
-        (told (slot_of x.0)) bytes.now x.1.now) }
-    ensures known { IfOk result (λ x. slot_of x.0 ≡ slot_with number (told (slot_of x.0))) }
+    ensures ok { IfOk result (λ x. ReadsItem (IsStateStep version) (step_bytes version)
+        (step_kind (slot_of x.0)) bytes.now x.1.now) }
+    ensures known { IfOk result (λ x. slot_of x.0 ≡ slot_with number (step_kind (slot_of x.0))) }
     ensures refused { IfErr result (λ why. IsNoneRead why
-        (BeginsNone (IsStateStep version) (step_bytes version)) bytes.now) }
+        (ReadsNoItem (IsStateStep version) (step_bytes version)) bytes.now) }
 {
     let Some((tag, rest)) = bytes.split_first() else {
         return Err(Unread::Cut);
@@ -104,7 +104,7 @@ fn after_step<'a>(step: &Step, bytes: &'a [u8]) -> Option<&'a [u8]>
 #[tactic(auto, unfolding(crate::specs::Parts::step_bytes))]
 fn after_slot<'a>(slot: &Slot, bytes: &'a [u8]) -> Option<&'a [u8]>
     ensures { IfSome result (λ rest. (version : Versions) →
-        bytes.now ≡ step_bytes version (told (slot_of slot.now)) ++ rest.now) }
+        bytes.now ≡ step_bytes version (step_kind (slot_of slot.now)) ++ rest.now) }
 {
     match slot {
         Slot::At(step) => after_step(step, bytes),
@@ -119,10 +119,10 @@ fn after_slot<'a>(slot: &Slot, bytes: &'a [u8]) -> Option<&'a [u8]>
 }
 
 /// With how many of these steps, of so many at most, the bytes begin, and what stands after them.
-fn shared<'a>(slots: &[Slot], count: u8, bytes: &'a [u8]) -> (usize, &'a [u8])
+fn skip_shared<'a>(slots: &[Slot], count: u8, bytes: &'a [u8]) -> (usize, &'a [u8])
     ensures few { (result.0 ≤ length slots.now) × (result.0 ≤ count) }
     ensures parts { (version : Versions) → bytes.now
-        ≡ flat_map (step_bytes version) (told_place (map slot_of (take result.0 slots.now)))
+        ≡ flat_map (step_bytes version) (path_of_place (map slot_of (take result.0 slots.now)))
         ++ result.1.now }
 {
     let mut len = 0;
@@ -149,17 +149,17 @@ fn each_step<'a>(
     count: u8,
     bytes: &'a [u8],
 ) -> Result<(Vec<Slot>, &'a [u8]), Unread>
-    requires steps { AllByRecursion (IsStateStep version) (told_place (map slot_of before.items)) }
-    requires known { IsKnown known.now (map slot_of before.items) }
+    requires steps { AllByRecursion (IsStateStep version) (path_of_place (map slot_of before.items)) }
+    requires known { IsIndexKnown known.now (map slot_of before.items) }
     requires deep { count ≤ length known.now }
-    ensures ok { IfOk result (λ x. Begins (AreSo (IsStateStep version) count)
-        (flat_map (step_bytes version)) (told_place (map slot_of x.0.items)) bytes.now x.1.now) }
-    ensures numbers { IfOk result (λ x. IsKnown known.now (map slot_of x.0.items)) }
+    ensures ok { IfOk result (λ x. ReadsItem (AreSo (IsStateStep version) count)
+        (flat_map (step_bytes version)) (path_of_place (map slot_of x.0.items)) bytes.now x.1.now) }
+    ensures numbers { IfOk result (λ x. IsIndexKnown known.now (map slot_of x.0.items)) }
     ensures refused { IfErr result (λ why. IsNoneRead why
-        (BeginsNone (AreSo (IsStateStep version) count) (flat_map (step_bytes version))) bytes.now) }
+        (ReadsNoItem (AreSo (IsStateStep version) count) (flat_map (step_bytes version))) bytes.now) }
 {
     let mut slots = before;
-    let (len, behind) = shared(slots.as_slice(), count, bytes);
+    let (len, behind) = skip_shared(slots.as_slice(), count, bytes);
     slots.truncate(len);
     let mut rest = behind;
     while slots.len() < count as usize {
@@ -182,14 +182,14 @@ pub fn path_at<'a>(
     known: &[u64],
     bytes: &'a [u8],
 ) -> Result<(Place, &'a [u8]), Unread>
-    requires steps { IsStatePath version (told_place before) }
-    requires known { IsKnown known.now before }
+    requires steps { IsStatePath version (path_of_place before) }
+    requires known { IsIndexKnown known.now before }
     requires deep { step_limit < length known.now }
-    ensures ok { IfOk result (λ x. Begins (IsStatePath version) (path_bytes version)
-        (told_place x.0) bytes.now x.1.now) }
-    ensures numbers { IfOk result (λ x. IsKnown known.now x.0) }
+    ensures ok { IfOk result (λ x. ReadsItem (IsStatePath version) (path_bytes version)
+        (path_of_place x.0) bytes.now x.1.now) }
+    ensures numbers { IfOk result (λ x. IsIndexKnown known.now x.0) }
     ensures refused { IfErr result (λ why. IsNoneRead why
-        (BeginsNone (IsStatePath version) (path_bytes version)) bytes.now) }
+        (ReadsNoItem (IsStatePath version) (path_bytes version)) bytes.now) }
 {
     let Some((count, rest)) = bytes.split_first() else {
         return Err(Unread::Cut);

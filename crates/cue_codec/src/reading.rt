@@ -6,7 +6,7 @@ ghost use Rattle.std.specs.Option.{option_map};
 ghost use Rattle.cue_lattice.specs.Scalar.{IsInteger};
 ghost use Rattle.cue_codec.specs.Parts.{integer_bytes, piece_bytes, text_bytes, flags, most_bytes};
 ghost use Rattle.cue_codec.specs.Parts.{index_bytes, lengths_bytes};
-ghost use Rattle.cue_codec.specs.Reading.{Begins, BeginsNone, IsPiece, IsWord, AreWideLengths};
+ghost use Rattle.cue_codec.specs.Reading.{ReadsItem, ReadsNoItem, IsPieceBytes, IsWord, AreWideLengths};
 ghost use Rattle.cue_codec.specs.Reading.{IsIndex, IsMost, number_at};
 ghost use Rattle.cue_codec.specs.Inner.Reading.{IsNoneRead};
 
@@ -38,7 +38,7 @@ pub fn u64_at(bytes: &[u8]) -> Option<(u64, &[u8])>
 }
 
 fn i64_at(bytes: &[u8]) -> Option<(i64, &[u8])>
-    ensures some { IfSome result (λ x. Begins IsInteger integer_bytes x.0 bytes.now x.1.now) }
+    ensures some { IfSome result (λ x. ReadsItem IsInteger integer_bytes x.0 bytes.now x.1.now) }
     ensures none { IfNone result (length bytes.now < 8) }
 {
     let (number, rest) = u64_at(bytes)?;
@@ -47,8 +47,8 @@ fn i64_at(bytes: &[u8]) -> Option<(i64, &[u8])>
 
 /// The first and the last integer of a piece.
 pub fn piece_at(bytes: &[u8]) -> Option<((i64, i64), &[u8])>
-    ensures some { IfSome result (λ x. Begins IsPiece piece_bytes x.0 bytes.now x.1.now) }
-    ensures none { IfNone result (BeginsNone IsPiece piece_bytes bytes.now) }
+    ensures some { IfSome result (λ x. ReadsItem IsPieceBytes piece_bytes x.0 bytes.now x.1.now) }
+    ensures none { IfNone result (ReadsNoItem IsPieceBytes piece_bytes bytes.now) }
 {
     let (first, rest) = i64_at(bytes)?;
     let (last, rest) = i64_at(rest)?;
@@ -68,9 +68,9 @@ fn front_at(len: usize, bytes: &[u8]) -> Option<(&[u8], &[u8])>
 
 /// A text after its length.
 pub fn text_at(bytes: &[u8]) -> Result<(&str, &[u8]), Unread>
-    ensures ok { IfOk result (λ x. Begins IsWord text_bytes x.0.now bytes.now x.1.now) }
+    ensures ok { IfOk result (λ x. ReadsItem IsWord text_bytes x.0.now bytes.now x.1.now) }
     ensures refused { IfErr result (λ why. IsNoneRead why
-        (BeginsNone IsWord text_bytes) bytes.now) }
+        (ReadsNoItem IsWord text_bytes) bytes.now) }
 {
     let Some((len, rest)) = u16_at(bytes) else {
         return Err(Unread::Cut);
@@ -104,9 +104,9 @@ pub fn flags_of(byte: u8) -> Option<(bool, bool, bool)>
 
 /// The greatest length, where there is one.
 fn most_at(bytes: &[u8]) -> Result<(Option<u32>, &[u8]), Unread>
-    ensures ok { IfOk result (λ x. Begins IsMost most_bytes x.0 bytes.now x.1.now) }
+    ensures ok { IfOk result (λ x. ReadsItem IsMost most_bytes x.0 bytes.now x.1.now) }
     ensures refused { IfErr result (λ why. IsNoneRead why
-        (BeginsNone IsMost most_bytes) bytes.now) }
+        (ReadsNoItem IsMost most_bytes) bytes.now) }
 {
     let Some((tag, rest)) = bytes.split_first() else {
         return Err(Unread::Cut);
@@ -126,9 +126,9 @@ fn most_at(bytes: &[u8]) -> Result<(Option<u32>, &[u8]), Unread>
 /// From which index on the elements of a list are alike: 0 where the version tells nothing of it.
 #[tactic(auto, unfolding(crate::specs::Parts::index_bytes))]
 fn index_at(version: Version, bytes: &[u8]) -> Option<(u64, &[u8])>
-    ensures some { IfSome result (λ x. Begins (IsIndex version) (index_bytes version) x.0
+    ensures some { IfSome result (λ x. ReadsItem (IsIndex version) (index_bytes version) x.0
         bytes.now x.1.now) }
-    ensures none { IfNone result (BeginsNone (IsIndex version) (index_bytes version) bytes.now) }
+    ensures none { IfNone result (ReadsNoItem (IsIndex version) (index_bytes version) bytes.now) }
 {
     match version {
         Version::First => Some((0, bytes)),
@@ -144,10 +144,10 @@ pub fn lengths_at(
     version: Version,
     bytes: &[u8],
 ) -> Result<((u32, Option<u32>, u64), &[u8]), Unread>
-    ensures ok { IfOk result (λ x. Begins (AreWideLengths version) (lengths_bytes version) x.0
+    ensures ok { IfOk result (λ x. ReadsItem (AreWideLengths version) (lengths_bytes version) x.0
         bytes.now x.1.now) }
     ensures refused { IfErr result (λ why. IsNoneRead why
-        (BeginsNone (AreWideLengths version) (lengths_bytes version)) bytes.now) }
+        (ReadsNoItem (AreWideLengths version) (lengths_bytes version)) bytes.now) }
 {
     let Some((least, rest)) = u32_at(bytes) else {
         return Err(Unread::Cut);

@@ -5,7 +5,7 @@ ghost use Rattle.std.specs.Prelude.{IsOk, IsTrue};
 ghost use Rattle.cue_lattice.specs.declared.refusal.Kind.TheVariants.{Memory as OutOfMemory};
 ghost use Rattle.cue_codec.specs.Decoding.{AreReadRows, NoRows};
 ghost use Rattle.cue_codec.specs.Inner.Drafting.{IsFed};
-ghost use Rattle.cue_codec.specs.Reading.{IsRefused};
+ghost use Rattle.cue_codec.specs.Reading.{IsReadRefused};
 
 use crate::drafting::Drafting;
 use crate::unfinished::Unfinished;
@@ -39,11 +39,11 @@ impl Model for RowPieces {
 }
 
 /// That a state of so many bytes and so many more is longer than any memory.
-fn beyond(taken: u64, more: u64) -> Kind
+fn length_error(taken: u64, more: u64) -> Kind
     requires { 2 ^ 64 ≤ taken + more }
     ensures { result ≡ OutOfMemory }
 {
-    let _memory = Memory::beyond(taken, more);
+    let _memory = Memory::too_many(taken, more);
     Kind::Memory
 }
 
@@ -79,7 +79,7 @@ impl RowPieces {
             taken,
         } = self;
         let Some(taken) = taken.checked_add(piece.len() as u64) else {
-            return Err(beyond(taken, piece.len() as u64));
+            return Err(length_error(taken, piece.len() as u64));
         };
         let mut rest = piece;
         while !rest.is_empty() {
@@ -100,7 +100,7 @@ impl RowPieces {
     pub fn finish(self) -> Result<Table<Row>, Kind>
         ensures ok { IfOk result (AreReadRows self.version self.count self.bytes) }
         ensures refused { IfErr result
-            (λ kind. IsRefused kind (NoRows self.version self.count self.bytes)) }
+            (λ kind. IsReadRefused kind (NoRows self.version self.count self.bytes)) }
         ensures fits { length self.bytes + 13 < 2 ^ 64 }
     {
         let RowPieces {

@@ -2,9 +2,9 @@
 
 ghost use Rattle.std.specs.Prelude.{◌≡◌, ◌↔◌, ◌<◌, [], length, IsTrue, IfOk, IfErr, OnErr};
 ghost use Rattle.cue_lattice.specs.Limits.{step_limit};
-ghost use Rattle.cue_codec.specs.Entry.{told_place, entry_at};
-ghost use Rattle.cue_codec.specs.Known.{IsKnown};
-ghost use Rattle.cue_codec.specs.Reading.{Begins, BeginsNone};
+ghost use Rattle.cue_codec.specs.Entry.{path_of_place, entry_at};
+ghost use Rattle.cue_codec.specs.Known.{IsIndexKnown};
+ghost use Rattle.cue_codec.specs.Reading.{ReadsItem, ReadsNoItem};
 ghost use Rattle.cue_codec.specs.Inner.Reading.{IsNoneRead};
 ghost use Rattle.cue_codec.specs.RowBytes.{row_bytes, IsStateRow};
 ghost use Rattle.cue_codec.specs.StateRow.{IsStatePath};
@@ -28,14 +28,14 @@ fn row_at<'a>(
     known: &[u64],
     bytes: &'a [u8],
 ) -> Result<((Place, u64, Row), &'a [u8]), Unread>
-    requires steps { IsStatePath version (told_place before) }
-    requires known { IsKnown known.now before }
+    requires steps { IsStatePath version (path_of_place before) }
+    requires known { IsIndexKnown known.now before }
     requires deep { step_limit < length known.now }
-    ensures ok { IfOk result (λ x. Begins (IsStateRow version) (row_bytes version)
+    ensures ok { IfOk result (λ x. ReadsItem (IsStateRow version) (row_bytes version)
         (entry_at x.0.0 x.0.1 x.0.2) bytes.now x.1.now) }
-    ensures numbers { IfOk result (λ x. IsKnown known.now x.0.0) }
+    ensures numbers { IfOk result (λ x. IsIndexKnown known.now x.0.0) }
     ensures refused { IfErr result (λ why. IsNoneRead why
-        (BeginsNone (IsStateRow version) (row_bytes version)) bytes.now) }
+        (ReadsNoItem (IsStateRow version) (row_bytes version)) bytes.now) }
 {
     let (place, behind) = path_at(alloc, version, before, known, bytes)?;
     let Some((number, rest)) = behind.split_first() else {
@@ -95,14 +95,14 @@ impl<'a> RowReader<'a> {
         before: Place,
         known: &[u64],
     ) -> Result<(Place, u64, Row), Unread>
-        requires steps { IsStatePath version (told_place before) }
-        requires known { IsKnown known.now before }
+        requires steps { IsStatePath version (path_of_place before) }
+        requires known { IsIndexKnown known.now before }
         requires deep { step_limit < length known.now }
-        ensures ok { IfOk result (λ x. Begins (IsStateRow version) (row_bytes version)
+        ensures ok { IfOk result (λ x. ReadsItem (IsStateRow version) (row_bytes version)
             (entry_at x.0 x.1 x.2) self.old self.new) }
-        ensures numbers { IfOk result (λ x. IsKnown known.now x.0) }
+        ensures numbers { IfOk result (λ x. IsIndexKnown known.now x.0) }
         ensures refused { IfErr result (λ why. IsNoneRead why
-            (BeginsNone (IsStateRow version) (row_bytes version)) self.old) }
+            (ReadsNoItem (IsStateRow version) (row_bytes version)) self.old) }
         ensures unchanged { OnErr result (self.new ≡ self.old) }
     {
         let (row, rest) = row_at(alloc, version, before, known, self.rest)?;

@@ -10,8 +10,8 @@ ghost use Rattle.cue_row.specs.Begun.{StillBegins};
 ghost use Rattle.cue_table.specs.Depth.{tree_depth};
 ghost use Rattle.cue_table.specs.Inner.ValidWalk.{IsSound};
 ghost use Rattle.cue_codec.specs.Parts.{step_bytes};
-ghost use Rattle.cue_codec.specs.Version.{written};
-ghost use Rattle.cue_codec.specs.Inner.Ways.{told_way, IsShortTold, IsBranch};
+ghost use Rattle.cue_codec.specs.Version.{written_version};
+ghost use Rattle.cue_codec.specs.Inner.Ways.{step_of_way, HasShortStep, IsBranch};
 ghost use Rattle.cue_codec.specs.Inner.Ways.{tree_bytes, branches_bytes, branches_in, branches_of};
 ghost use Rattle.cue_codec.specs.Inner.Walks.{walk_bytes, IsWalk};
 
@@ -52,7 +52,7 @@ impl<'a> Branches<'a> {
 impl<'a> Iterator for Branches<'a> {
     type Item = (Way<'a>, Branch<'a, Row>);
 
-    ghost next_gives = { YieldsFirstBy (λ item. (told_way item.0, item.1)) branches_in };
+    ghost next_gives = { YieldsFirstBy (λ item. (step_of_way item.0, item.1)) branches_in };
 
     ghost remaining = { item_count branches_in };
 
@@ -67,7 +67,7 @@ impl<'a> Iterator for Branches<'a> {
 
 /// A place whose row was written, with the branches below it that are still to be written.
 #[derive(Drop)]
-pub struct Place<'a> {
+pub struct WalkPlace<'a> {
     below: Branches<'a>,
     /// How many bytes the step to it has.
     size: usize,
@@ -76,18 +76,18 @@ pub struct Place<'a> {
 /// What is still to be written of a table whose root was written. Each place of the stack is one
 /// step below the one before it.
 #[derive(Drop)]
-pub struct Walk<'a> {
+pub struct RowWalk<'a> {
     /// The bytes of the steps to the last place of the stack.
     steps: Vec<u8>,
-    stack: Vec<Place<'a>>,
+    stack: Vec<WalkPlace<'a>>,
     /// A branch below the last place that comes before the others there.
     next: Option<(Way<'a>, Branch<'a, Row>)>,
 }
 
 fn put_way(steps: &mut Vec<u8>, way: &Way<'_>) -> Result<(), Memory>
-    requires { IsShortTold (told_way way.now) }
+    requires { HasShortStep (step_of_way way.now) }
     ensures written { OnOk result (steps.new.items ≡ steps.old.items
-        ++ step_bytes written (told_way way.now)) }
+        ++ step_bytes written_version (step_of_way way.now)) }
     ensures kept { OnErr result (StillBegins steps.old.items steps.new.items) }
 {
     match way {
@@ -104,9 +104,9 @@ fn put_some(
     way: &Way<'_>,
     branch: &Branch<'_, Row>,
 ) -> Result<(), Memory>
-    requires { IsBranch depth (told_way way.now, branch.now) }
+    requires { IsBranch depth (step_of_way way.now, branch.now) }
     ensures steps { OnOk result (steps.new.items ≡ steps.old.items
-        ++ step_bytes written (told_way way.now)) }
+        ++ step_bytes written_version (step_of_way way.now)) }
     ensures rows { OnOk result (out.new.items
         ++ branches_bytes depth steps.new.items (branches_of branch.now)
         ≡ out.old.items ++ tree_bytes depth steps.new.items branch.now) }
@@ -127,9 +127,9 @@ fn put_row(
     way: &Way<'_>,
     branch: &Branch<'_, Row>,
 ) -> Result<(), Memory>
-    requires { IsBranch depth (told_way way.now, branch.now) }
+    requires { IsBranch depth (step_of_way way.now, branch.now) }
     ensures steps { OnOk result (steps.new.items ≡ steps.old.items
-        ++ step_bytes written (told_way way.now)) }
+        ++ step_bytes written_version (step_of_way way.now)) }
     ensures rows { OnOk result (out.new.items
         ++ branches_bytes depth steps.new.items (branches_of branch.now)
         ≡ out.old.items ++ tree_bytes depth steps.new.items branch.now) }
@@ -149,13 +149,13 @@ fn put_row(
     }
 }
 
-impl<'a> Walk<'a> {
+impl<'a> RowWalk<'a> {
     /// The walk that has nothing to write.
-    pub fn new(alloc: Global) -> Walk<'a>
+    pub fn new(alloc: Global) -> RowWalk<'a>
         ensures walk { IsWalk result }
         ensures bytes { walk_bytes result ≡ [] }
     {
-        Walk {
+        RowWalk {
             steps: Vec::new(alloc),
             stack: Vec::new(alloc),
             next: None,
@@ -167,7 +167,7 @@ impl<'a> Walk<'a> {
         alloc: Global,
         root: &Branch<'a, Row>,
         out: &mut Vec<u8>,
-    ) -> Result<Walk<'a>, Memory>
+    ) -> Result<RowWalk<'a>, Memory>
         requires deep { tree_depth root.now ≤ step_limit }
         requires sound { IsSound root.now }
         ensures walk { IfOk result IsWalk }
@@ -177,11 +177,11 @@ impl<'a> Walk<'a> {
         let steps = Vec::new(alloc);
         put_place(out, 0, steps.as_slice(), root)?;
         let mut stack = Vec::new(alloc);
-        stack.push(Place {
+        stack.push(WalkPlace {
             below: Branches::of(root),
             size: 0,
         })?;
-        Ok(Walk {
+        Ok(RowWalk {
             steps,
             stack,
             next: None,
@@ -195,10 +195,10 @@ impl<'a> Walk<'a> {
         ensures none { self.new.next ≡ None }
         ensures bytes { MatchOption result ((walk_bytes self.old ≡ []) × (walk_bytes self.new ≡ []))
             (λ item. walk_bytes self.old ≡ tree_bytes (length self.new.stack.items)
-            (self.new.steps.items ++ step_bytes written (told_way item.0)) item.1
+            (self.new.steps.items ++ step_bytes written_version (step_of_way item.0)) item.1
             ++ walk_bytes self.new) }
         ensures branch { IfSome result (λ item.
-            IsBranch (length self.new.stack.items) (told_way item.0, item.1)) }
+            IsBranch (length self.new.stack.items) (step_of_way item.0, item.1)) }
         ensures no_more { vec_len self.new.stack ≤ vec_len self.old.stack }
         ensures capacity { vec_capacity self.new.stack ≡ vec_capacity self.old.stack }
     {
@@ -236,7 +236,7 @@ impl<'a> Walk<'a> {
             self.next = Some((way, branch));
             return Err(memory);
         }
-        let place = Place {
+        let place = WalkPlace {
             below: Branches::of(&branch),
             size: self.steps.len() - above,
         };

@@ -3,9 +3,9 @@
 
 ghost use Rattle.std.specs.Prelude.{◌≡◌, ◌<◌, ◌^◌, ◌++◌, OnErr, OnOk};
 ghost use Rattle.cue_row.specs.Begun.{StillBegins};
-ghost use Rattle.cue_codec.specs.RowBytes.{parts_bytes, parts_of, scalars_bytes, left_out_bytes};
+ghost use Rattle.cue_codec.specs.RowBytes.{row_part_bytes, parts_of_row, scalars_bytes, left_out_bytes};
 ghost use Rattle.cue_codec.specs.RowBytes.{IsShortRow};
-ghost use Rattle.cue_codec.specs.Version.{written};
+ghost use Rattle.cue_codec.specs.Version.{written_version};
 
 use crate::rows::is_empty;
 use crate::writing::{put_labels, put_lengths, put_set};
@@ -30,7 +30,7 @@ fn put_left_out(out: &mut Vec<u8>, row: &Row, fixed: u64) -> Result<(), Memory>
     requires short { IsShortRow row.now }
     requires fixed { fixed < 2 ^ 32 }
     ensures written { OnOk result (out.new.items ≡ out.old.items
-        ++ left_out_bytes written (row.now.labels, (row.now.least, row.now.most, fixed))) }
+        ++ left_out_bytes written_version (row.now.labels, (row.now.least, row.now.most, fixed))) }
     ensures kept { OnErr result (StillBegins out.old.items out.new.items) }
 {
     put_labels(out, row.labels())?;
@@ -39,12 +39,12 @@ fn put_left_out(out: &mut Vec<u8>, row: &Row, fixed: u64) -> Result<(), Memory>
 
 /// Writes the kind of a row, and what it leaves open, where its elements are alike from an index
 /// on.
-#[tactic(auto, unfolding(crate::specs::RowBytes::parts_bytes))]
+#[tactic(auto, unfolding(crate::specs::RowBytes::row_part_bytes))]
 pub fn put_parts(out: &mut Vec<u8>, row: &Row, fixed: u64) -> Result<(), Memory>
     requires short { IsShortRow row.now }
     requires fixed { fixed < 2 ^ 32 }
     ensures written { OnOk result (out.new.items ≡ out.old.items
-        ++ parts_bytes written (parts_of row.now fixed)) }
+        ++ row_part_bytes written_version (parts_of_row row.now fixed)) }
     ensures kept { OnErr result (StillBegins out.old.items out.new.items) }
 {
     match (row.struct_ok(), row.list_ok()) {

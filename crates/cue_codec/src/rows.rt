@@ -5,12 +5,12 @@ ghost use Rattle.std.specs.Prelude.{◌≡◌, ◌≤ℤ◌, IfOk, IfErr, IfSome
 ghost use Rattle.cue_scalars.specs.declared.scalar_set.ScalarSet.{ScalarSet as Set};
 ghost use Rattle.cue_row.specs.Kept.{integers_set, text_set};
 ghost use Rattle.cue_codec.specs.Parts.{set_bytes, labels_bytes, lengths_bytes};
-ghost use Rattle.cue_codec.specs.Reading.{Begins, BeginsNone, AreWideLengths};
+ghost use Rattle.cue_codec.specs.Reading.{ReadsItem, ReadsNoItem, AreWideLengths};
 ghost use Rattle.cue_codec.specs.Inner.Reading.{IsNoneRead};
 ghost use Rattle.cue_codec.specs.StateRow.{IsStateSet, AreStateLabels};
-ghost use Rattle.cue_codec.specs.RowBytes.{scalar, struct, list, nothing, scalars_bytes, Reads};
-ghost use Rattle.cue_codec.specs.RowBytes.{left_out_bytes, parts_bytes, is_empty_set};
-ghost use Rattle.cue_codec.specs.RowBytes.{AreScalars, AreLeftOut, IsStateParts};
+ghost use Rattle.cue_codec.specs.RowBytes.{scalar, struct, list, nothing, scalars_bytes, ReadsPart};
+ghost use Rattle.cue_codec.specs.RowBytes.{left_out_bytes, row_part_bytes, is_no_scalar};
+ghost use Rattle.cue_codec.specs.RowBytes.{AreScalarParts, AreLeftOut, IsStateParts};
 
 use crate::reading::lengths_at;
 use crate::sets::{labels_at, lone_piece_at, lone_text_at, set_at};
@@ -22,7 +22,7 @@ use std::alloc::Global;
 
 /// Whether no scalar is a member.
 pub fn is_empty(set: &Scalars) -> bool
-    ensures { result ≡ is_empty_set set.now }
+    ensures { result ≡ is_no_scalar set.now }
 {
     let (all_but, texts) = set.texts();
     let has_plain = set.null() || set.no() || set.yes();
@@ -33,8 +33,8 @@ pub fn is_empty(set: &Scalars) -> bool
 /// a set ends there, the same set stands behind it.
 fn after_again<'a>(bytes: &[u8], behind: &'a [u8]) -> Option<&'a [u8]>
     ensures { IfSome result (λ rest. (set : Set) →
-        Begins IsStateSet set_bytes set bytes.now behind.now →
-        Begins IsStateSet set_bytes set behind.now rest.now) }
+        ReadsItem IsStateSet set_bytes set bytes.now behind.now →
+        ReadsItem IsStateSet set_bytes set behind.now rest.now) }
 {
     let len = bytes.len().checked_sub(behind.len())?;
     let rest = behind.strip_prefix(&bytes[..len])?;
@@ -43,7 +43,7 @@ fn after_again<'a>(bytes: &[u8], behind: &'a [u8]) -> Option<&'a [u8]>
 
 /// The text of the set of one text, all of it usual, where the bytes of both sets stand in front.
 fn usual_text_at(bytes: &[u8]) -> Option<(&str, &[u8])>
-    ensures { IfSome result (λ x. Begins AreScalars scalars_bytes
+    ensures { IfSome result (λ x. ReadsItem AreScalarParts scalars_bytes
         (text_set x.0.now, text_set x.0.now) bytes.now x.1.now) }
 {
     let (text, behind) = lone_text_at(bytes)?;
@@ -55,7 +55,7 @@ fn usual_text_at(bytes: &[u8]) -> Option<(&str, &[u8])>
 /// sets stand in front.
 fn usual_piece_at(bytes: &[u8]) -> Option<(i64, i64, &[u8])>
     ensures order { IfSome result (λ x. x.0 ≤ℤ x.1) }
-    ensures sets { IfSome result (λ x. Begins AreScalars scalars_bytes
+    ensures sets { IfSome result (λ x. ReadsItem AreScalarParts scalars_bytes
         (integers_set (x.0, x.1), integers_set (x.0, x.1)) bytes.now x.2.now) }
 {
     let (first, last, behind) = lone_piece_at(bytes)?;
@@ -67,10 +67,10 @@ fn usual_piece_at(bytes: &[u8]) -> Option<(i64, i64, &[u8])>
 /// single piece of integers or a single text without a list.
 fn scalar_at(alloc: Global, level: Level, bytes: &[u8]) -> Result<(Row, u64, &[u8]), Unread>
     ensures ok { IfOk result
-        (λ x. Reads (λ sets. scalar sets.0 sets.1) AreScalars scalars_bytes level x.0 x.1
+        (λ x. ReadsPart (λ sets. scalar sets.0 sets.1) AreScalarParts scalars_bytes level x.0 x.1
         bytes.now x.2.now) }
     ensures refused { IfErr result (λ why. IsNoneRead why
-        (BeginsNone AreScalars scalars_bytes) bytes.now) }
+        (ReadsNoItem AreScalarParts scalars_bytes) bytes.now) }
 {
     if let Some((first, last, rest)) = usual_piece_at(bytes) {
         return Ok((Row::of_range(level, first, last), 0, rest));
@@ -101,9 +101,9 @@ fn scalar_at(alloc: Global, level: Level, bytes: &[u8]) -> Result<(Row, u64, &[u
 /// A struct with certain labels.
 fn struct_at(alloc: Global, level: Level, bytes: &[u8]) -> Result<(Row, u64, &[u8]), Unread>
     ensures ok { IfOk result
-        (λ x. Reads struct AreStateLabels labels_bytes level x.0 x.1 bytes.now x.2.now) }
+        (λ x. ReadsPart struct AreStateLabels labels_bytes level x.0 x.1 bytes.now x.2.now) }
     ensures refused { IfErr result (λ why. IsNoneRead why
-        (BeginsNone AreStateLabels labels_bytes) bytes.now) }
+        (ReadsNoItem AreStateLabels labels_bytes) bytes.now) }
 {
     let (labels, rest) = labels_at(alloc, bytes)?;
     let Ok(row) = Row::of_struct(alloc, level, labels) else {
@@ -120,10 +120,10 @@ fn list_at(
     bytes: &[u8],
 ) -> Result<(Row, u64, &[u8]), Unread>
     ensures ok { IfOk result
-        (λ x. Reads list (AreWideLengths version) (lengths_bytes version) level x.0 x.1
+        (λ x. ReadsPart list (AreWideLengths version) (lengths_bytes version) level x.0 x.1
         bytes.now x.2.now) }
     ensures refused { IfErr result (λ why. IsNoneRead why
-        (BeginsNone (AreWideLengths version) (lengths_bytes version)) bytes.now) }
+        (ReadsNoItem (AreWideLengths version) (lengths_bytes version)) bytes.now) }
 {
     let ((least, most, fixed), rest) = lengths_at(version, bytes)?;
     let Ok(row) = Row::of_list(alloc, level, least, most) else {
@@ -140,10 +140,10 @@ fn nothing_at(
     bytes: &[u8],
 ) -> Result<(Row, u64, &[u8]), Unread>
     ensures ok { IfOk result
-        (λ x. Reads (λ parts. nothing parts.0 parts.1) (AreLeftOut version) (left_out_bytes version)
+        (λ x. ReadsPart (λ parts. nothing parts.0 parts.1) (AreLeftOut version) (left_out_bytes version)
         level x.0 x.1 bytes.now x.2.now) }
     ensures refused { IfErr result (λ why. IsNoneRead why
-        (BeginsNone (AreLeftOut version) (left_out_bytes version)) bytes.now) }
+        (ReadsNoItem (AreLeftOut version) (left_out_bytes version)) bytes.now) }
 {
     let (labels, middle) = labels_at(alloc, bytes)?;
     let ((least, most, fixed), rest) = lengths_at(version, middle)?;
@@ -161,10 +161,10 @@ pub fn parts_at(
     bytes: &[u8],
 ) -> Result<(Row, u64, &[u8]), Unread>
     ensures ok { IfOk result
-        (λ x. Reads (λ parts. parts) (IsStateParts version) (parts_bytes version) level x.0 x.1
+        (λ x. ReadsPart (λ parts. parts) (IsStateParts version) (row_part_bytes version) level x.0 x.1
         bytes.now x.2.now) }
     ensures refused { IfErr result (λ why. IsNoneRead why
-        (BeginsNone (IsStateParts version) (parts_bytes version)) bytes.now) }
+        (ReadsNoItem (IsStateParts version) (row_part_bytes version)) bytes.now) }
 {
     let Some((tag, rest)) = bytes.split_first() else {
         return Err(Unread::Cut);

@@ -5,7 +5,7 @@ ghost use Rattle.std.specs.Int.{w64, to_be_bytes};
 ghost use Rattle.cue_row.specs.Kept.{integers_set, text_set};
 ghost use Rattle.cue_codec.specs.Parts.{bit, counted_bytes, piece_bytes, text_set_bytes, set_bytes};
 ghost use Rattle.cue_codec.specs.Parts.{labels_bytes};
-ghost use Rattle.cue_codec.specs.Reading.{Begins, BeginsNone};
+ghost use Rattle.cue_codec.specs.Reading.{ReadsItem, ReadsNoItem};
 ghost use Rattle.cue_codec.specs.Inner.Reading.{IsNoneRead};
 ghost use Rattle.cue_codec.specs.StateRow.{IsStateIntegers, IsStateTexts, IsStateSet};
 ghost use Rattle.cue_codec.specs.StateRow.{AreStateLabels};
@@ -14,17 +14,17 @@ use crate::lists::{pieces_at, texts_at};
 use crate::reading::{flags_of, piece_at, text_at, u64_at};
 use crate::unread::Unread;
 use cue_lattice::Narrow;
-use cue_row::Labels;
+use cue_row::LabelSet;
 use cue_scalars::ScalarSet;
 use cue_sets::{IntSet, TextSet};
 use std::alloc::Global;
 
 /// A set of integers.
 fn int_set_at(alloc: Global, bytes: &[u8]) -> Result<(IntSet, &[u8]), Unread>
-    ensures ok { IfOk result (λ x. Begins IsStateIntegers
+    ensures ok { IfOk result (λ x. ReadsItem IsStateIntegers
         (counted_bytes piece_bytes) x.0 bytes.now x.1.now) }
     ensures refused { IfErr result (λ why. IsNoneRead why
-        (BeginsNone IsStateIntegers (counted_bytes piece_bytes)) bytes.now) }
+        (ReadsNoItem IsStateIntegers (counted_bytes piece_bytes)) bytes.now) }
 {
     let (pieces, rest) = pieces_at(alloc, bytes)?;
     let Some(set) = IntSet::from_pieces(pieces) else {
@@ -48,9 +48,9 @@ fn bit_of(byte: u8) -> Option<bool>
 
 /// A set of texts.
 fn text_set_at(alloc: Global, bytes: &[u8]) -> Result<(TextSet, &[u8]), Unread>
-    ensures ok { IfOk result (λ x. Begins IsStateTexts text_set_bytes x.0 bytes.now x.1.now) }
+    ensures ok { IfOk result (λ x. ReadsItem IsStateTexts text_set_bytes x.0 bytes.now x.1.now) }
     ensures refused { IfErr result (λ why. IsNoneRead why
-        (BeginsNone IsStateTexts text_set_bytes) bytes.now) }
+        (ReadsNoItem IsStateTexts text_set_bytes) bytes.now) }
 {
     let Some((tag, rest)) = bytes.split_first() else {
         return Err(Unread::Cut);
@@ -85,7 +85,7 @@ fn after_count(count: u64, bytes: &[u8]) -> Option<&[u8]>
 /// in front.
 pub fn lone_piece_at(bytes: &[u8]) -> Option<(i64, i64, &[u8])>
     ensures order { IfSome result (λ x. x.0 ≤ℤ x.1) }
-    ensures set { IfSome result (λ x. Begins IsStateSet set_bytes (integers_set (x.0, x.1))
+    ensures set { IfSome result (λ x. ReadsItem IsStateSet set_bytes (integers_set (x.0, x.1))
         bytes.now x.2.now) }
 {
     let rest = after_count(1, bytes)?;
@@ -100,7 +100,7 @@ pub fn lone_piece_at(bytes: &[u8]) -> Option<(i64, i64, &[u8])>
 /// The set of the integers of one piece and nothing else, where its bytes stand in front. This
 /// takes no memory.
 fn piece_set_at(alloc: Global, bytes: &[u8]) -> Option<(ScalarSet, &[u8])>
-    ensures { IfSome result (λ x. Begins IsStateSet set_bytes x.0 bytes.now x.1.now) }
+    ensures { IfSome result (λ x. ReadsItem IsStateSet set_bytes x.0 bytes.now x.1.now) }
 {
     let (first, last, rest) = lone_piece_at(bytes)?;
     let set = ScalarSet {
@@ -115,7 +115,7 @@ fn piece_set_at(alloc: Global, bytes: &[u8]) -> Option<(ScalarSet, &[u8])>
 
 /// The text of the set of one text and nothing else, where its bytes stand in front.
 pub fn lone_text_at(bytes: &[u8]) -> Option<(&str, &[u8])>
-    ensures { IfSome result (λ x. Begins IsStateSet set_bytes (text_set x.0.now) bytes.now x.1.now) }
+    ensures { IfSome result (λ x. ReadsItem IsStateSet set_bytes (text_set x.0.now) bytes.now x.1.now) }
 {
     let rest = after_count(0, bytes)?;
     let rest = after_count(1, rest)?;
@@ -128,9 +128,9 @@ pub fn lone_text_at(bytes: &[u8]) -> Option<(&str, &[u8])>
 /// A set of scalars.
 #[inline(always)]
 pub fn set_at(alloc: Global, bytes: &[u8]) -> Result<(ScalarSet, &[u8]), Unread>
-    ensures ok { IfOk result (λ x. Begins IsStateSet set_bytes x.0 bytes.now x.1.now) }
+    ensures ok { IfOk result (λ x. ReadsItem IsStateSet set_bytes x.0 bytes.now x.1.now) }
     ensures refused { IfErr result (λ why. IsNoneRead why
-        (BeginsNone IsStateSet set_bytes) bytes.now) }
+        (ReadsNoItem IsStateSet set_bytes) bytes.now) }
 {
     if let Some(found) = piece_set_at(alloc, bytes) {
         return Ok(found);
@@ -154,10 +154,10 @@ pub fn set_at(alloc: Global, bytes: &[u8]) -> Result<(ScalarSet, &[u8]), Unread>
 }
 
 /// Which labels may stand: all, or the listed ones.
-pub fn labels_at(alloc: Global, bytes: &[u8]) -> Result<(Labels, &[u8]), Unread>
-    ensures ok { IfOk result (λ x. Begins AreStateLabels labels_bytes x.0 bytes.now x.1.now) }
+pub fn labels_at(alloc: Global, bytes: &[u8]) -> Result<(LabelSet, &[u8]), Unread>
+    ensures ok { IfOk result (λ x. ReadsItem AreStateLabels labels_bytes x.0 bytes.now x.1.now) }
     ensures refused { IfErr result (λ why. IsNoneRead why
-        (BeginsNone AreStateLabels labels_bytes) bytes.now) }
+        (ReadsNoItem AreStateLabels labels_bytes) bytes.now) }
 {
     let Some((tag, rest)) = bytes.split_first() else {
         return Err(Unread::Cut);
@@ -166,10 +166,10 @@ pub fn labels_at(alloc: Global, bytes: &[u8]) -> Result<(Labels, &[u8]), Unread>
         return Err(Unread::Wrong);
     };
     if !is_listed {
-        return Ok((Labels::all(alloc), rest));
+        return Ok((LabelSet::all(alloc), rest));
     }
     let (texts, rest) = texts_at(alloc, rest)?;
-    let Some(labels) = Labels::listing(texts) else {
+    let Some(labels) = LabelSet::listing(texts) else {
         return Err(Unread::Wrong);
     };
     labels.known();

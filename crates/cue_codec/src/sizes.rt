@@ -8,10 +8,10 @@ ghost use Rattle.cue_table.specs.Tree.{fixed_of};
 ghost use Rattle.cue_codec.specs.Entry.{at, entries_of};
 ghost use Rattle.cue_codec.specs.Parts.{counted_bytes, text_bytes, set_bytes, labels_bytes};
 ghost use Rattle.cue_codec.specs.Parts.{lengths_bytes, step_bytes};
-ghost use Rattle.cue_codec.specs.RowBytes.{parts_bytes, parts_of, row_bytes_from};
-ghost use Rattle.cue_codec.specs.Size.{saturated, size_of};
+ghost use Rattle.cue_codec.specs.RowBytes.{row_part_bytes, parts_of_row, row_bytes_from};
+ghost use Rattle.cue_codec.specs.Size.{at_most_64_bits, size_of};
 ghost use Rattle.cue_codec.specs.State.{table_bytes};
-ghost use Rattle.cue_codec.specs.Version.{written};
+ghost use Rattle.cue_codec.specs.Version.{written_version};
 
 use crate::branches::branch_count;
 use crate::rows::is_empty;
@@ -20,7 +20,7 @@ use cue_row::{Row, Scalars};
 use cue_table::{Branch, StepRef, Table};
 
 fn add(left: u64, right: u64) -> u64
-    ensures { result ≡ saturated (left + right) }
+    ensures { result ≡ at_most_64_bits (left + right) }
 {
     u64::saturating_add(left, right)
 }
@@ -56,7 +56,7 @@ fn labels_size(labels: Option<&[Text]>) -> u64
 
 #[tactic(auto, using(crate::proofs::Lengths::open_length, crate::proofs::Lengths::closed_length))]
 fn lengths_size(least: u32, most: Option<u32>) -> u64
-    ensures { (fixed : ℕ) → result ≡ size_of (lengths_bytes written (least, most, fixed)) }
+    ensures { (fixed : ℕ) → result ≡ size_of (lengths_bytes written_version (least, most, fixed)) }
 {
     match most {
         None => 9,
@@ -67,7 +67,7 @@ fn lengths_size(least: u32, most: Option<u32>) -> u64
 /// How many bytes the parts of a row take, from whichever index on its elements are alike.
 #[tactic(auto, using(crate::proofs::Lengths::lengths_of_parts))]
 fn parts_size(row: &Row) -> u64
-    ensures { (fixed : ℕ) → result ≡ size_of (parts_bytes written (parts_of row.now fixed)) }
+    ensures { (fixed : ℕ) → result ≡ size_of (row_part_bytes written_version (parts_of_row row.now fixed)) }
 {
     match (row.struct_ok(), row.list_ok()) {
         (true, true) => 1,
@@ -86,7 +86,7 @@ fn parts_size(row: &Row) -> u64
 /// How many bytes a label or an index takes.
 #[tactic(auto, using(crate::proofs::Lengths::label_length, crate::proofs::Lengths::index_length))]
 fn step_size(step: StepRef) -> u64
-    ensures { result ≡ size_of (step_bytes written (at (step_at step.entry))) }
+    ensures { result ≡ size_of (step_bytes written_version (at (step_at step.entry))) }
 {
     match step {
         StepRef::Label(text) => add(3, text.as_bytes().len() as u64),
@@ -98,8 +98,8 @@ fn step_size(step: StepRef) -> u64
 /// is kept as one is walked once, as each index takes as many bytes.
 fn rows_size(steps: u64, branch: &Branch<Row>) -> u64
     ensures { (depth : ℕ) (bytes : List ℕ) → steps ≡ size_of bytes
-        → result ≡ size_of (flat_map (row_bytes_from written depth bytes)
-        (entries_of written branch.now)) }
+        → result ≡ size_of (flat_map (row_bytes_from written_version depth bytes)
+        (entries_of written_version branch.now)) }
 {
     let mut size = match branch.row() {
         None => 0,

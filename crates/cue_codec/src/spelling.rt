@@ -3,7 +3,7 @@
 ghost use Rattle.std.specs.Prelude.{◌≡◌, ◌<◌, ◌^◌, ℕ, List, ◌++◌, length, map};
 ghost use Rattle.cue_row.specs.declared.parts.RowParts.{RowParts as Row};
 ghost use Rattle.cue_codec.specs.declared.version.Version.{Version};
-ghost use Rattle.cue_codec.specs.Entry.{Entry, entries_of, told_row, without_index};
+ghost use Rattle.cue_codec.specs.Entry.{Entry, entries_of, entry_of_row, without_index};
 ghost use Rattle.cue_codec.specs.KindBytes.{AreBytesOfKinds};
 ghost use Rattle.cue_codec.specs.Reading.{AreCounted};
 ghost use Rattle.cue_codec.specs.RowBytes.{row_bytes, IsStateRow};
@@ -22,7 +22,7 @@ pub fn bytes_of_kinds()
 /// are told. It computes nothing: it states a law.
 pub fn law_of_entries()
     ensures { (version : Version) (tree : Tree Row) →
-        map without_index (entries_of version tree) ≡ map told_row (rows_of tree) }
+        map without_index (entries_of version tree) ≡ map entry_of_row (rows_of tree) }
 {}
 
 /// In each version the bytes of a row in front tell the row and what stands after it. It computes

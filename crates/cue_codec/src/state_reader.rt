@@ -3,7 +3,7 @@
 ghost use Rattle.std.specs.Prelude.{◌≡◌, ◌+◌, ◌<◌, ◌≤◌, ◌^◌, ◌++◌, ℕ, List, [], length, take, IfOk};
 ghost use Rattle.std.specs.Prelude.{IfErr};
 ghost use Rattle.std.specs.Prelude.{IsOk, OnOk};
-ghost use Rattle.cue_codec.specs.Pieces.{so_far, IsTakenIn, IsNotTakenIn, IsReadTable, IsUnread};
+ghost use Rattle.cue_codec.specs.Pieces.{so_far, IsTakenIn, IsNotTakenIn, IsReadTable, IsIntakeUnread};
 ghost use Rattle.cue_codec.specs.Pieces.{failed};
 ghost use Rattle.cue_codec.specs.State.{table_bytes_in};
 ghost use Rattle.cue_codec.specs.declared.version.Version.{Version as Versions};
@@ -25,7 +25,7 @@ const HEAD_LEN: usize = 13;
 
 /// What was taken in.
 #[derive(Drop)]
-pub(crate) enum Taken {
+pub(crate) enum TakenBytes {
     /// So many bytes of the head, at the front of its room.
     Head([u8; HEAD_LEN], usize),
     /// The head, and bytes of rows.
@@ -44,7 +44,7 @@ pub(crate) enum Taken {
 #[derive(Drop)]
 pub struct StateReader {
     alloc: Global,
-    taken: Taken,
+    taken: TakenBytes,
 }
 
 impl Model for StateReader {
@@ -59,11 +59,11 @@ impl Model for StateReader {
     ghost invariant = { λ reader. IsSound reader.taken };
 }
 
-impl Taken {
+impl TakenBytes {
     ghost use Rattle.cue_codec.specs.Inner.Intakes.{with_head, intake_of, IsSound, HasTaken};
 
     /// Rows, with bytes that come next.
-    fn more_rows(rows: RowPieces, piece: &[u8]) -> Result<Taken, Kind>
+    fn more_rows(rows: RowPieces, piece: &[u8]) -> Result<TakenBytes, Kind>
         requires { rows.count < 2 ^ 64 }
         ensures none { piece.now ≡ [] → IsOk result }
         ensures memory { IfErr result (λ kind. kind ≡ OutOfMemory) }
@@ -71,13 +71,13 @@ impl Taken {
             (HasTaken (with_head rows.version rows.count (rows.bytes ++ piece.now))) }
     {
         match rows.feed(piece)? {
-            Some(rows) => Ok(Taken::Rows(rows)),
-            None => Ok(Taken::NoState),
+            Some(rows) => Ok(TakenBytes::Rows(rows)),
+            None => Ok(TakenBytes::NoState),
         }
     }
 
     /// A whole head, with bytes that come next.
-    fn whole_head(alloc: Global, head: [u8; HEAD_LEN], piece: &[u8]) -> Result<Taken, Kind>
+    fn whole_head(alloc: Global, head: [u8; HEAD_LEN], piece: &[u8]) -> Result<TakenBytes, Kind>
         requires { length head ≡ 13 }
         ensures none { piece.now ≡ [] → IsOk result }
         ensures memory { IfErr result (λ kind. kind ≡ OutOfMemory) }
@@ -85,11 +85,11 @@ impl Taken {
     {
         match head_at(&head) {
             Ok((version, count, _)) => {
-                Taken::more_rows(RowPieces::new(alloc, version, count), piece)
+                TakenBytes::more_rows(RowPieces::new(alloc, version, count), piece)
             }
             Err(kind) => match kind {
-                Kind::Version => Ok(Taken::OtherVersion),
-                _ => Ok(Taken::NoState),
+                Kind::Version => Ok(TakenBytes::OtherVersion),
+                _ => Ok(TakenBytes::NoState),
             },
         }
     }
@@ -100,7 +100,7 @@ impl Taken {
         head: [u8; HEAD_LEN],
         len: usize,
         piece: &[u8],
-    ) -> Result<Taken, Kind>
+    ) -> Result<TakenBytes, Kind>
         requires room { length head ≡ 13 }
         requires short { len < 13 }
         ensures head { len + length piece.now ≤ 13 → IsOk result }
@@ -112,13 +112,13 @@ impl Taken {
         let (front, rest) = piece.split_at(count);
         head[len..len + count].copy_from_slice(front);
         if len + count < HEAD_LEN {
-            return Ok(Taken::Head(head, len + count));
+            return Ok(TakenBytes::Head(head, len + count));
         }
-        Taken::whole_head(alloc, head, rest)
+        TakenBytes::whole_head(alloc, head, rest)
     }
 
     /// What was taken in, with bytes that come next.
-    fn more(self, alloc: Global, piece: &[u8]) -> Result<Taken, Kind>
+    fn more(self, alloc: Global, piece: &[u8]) -> Result<TakenBytes, Kind>
         requires { IsSound self }
         ensures sound { IfOk result IsSound }
         ensures ok { IfOk result
@@ -128,11 +128,11 @@ impl Taken {
             → length bytes + length piece.now ≤ 13 → IsOk result }
     {
         match self {
-            Taken::Head(head, len) => Taken::more_head(alloc, head, len, piece),
-            Taken::Rows(rows) => Taken::more_rows(rows, piece),
-            Taken::OtherVersion => Ok(Taken::OtherVersion),
-            Taken::NoState => Ok(Taken::NoState),
-            Taken::Failed => Err(Kind::Failed),
+            TakenBytes::Head(head, len) => TakenBytes::more_head(alloc, head, len, piece),
+            TakenBytes::Rows(rows) => TakenBytes::more_rows(rows, piece),
+            TakenBytes::OtherVersion => Ok(TakenBytes::OtherVersion),
+            TakenBytes::NoState => Ok(TakenBytes::NoState),
+            TakenBytes::Failed => Err(Kind::Failed),
         }
     }
 }
@@ -144,7 +144,7 @@ impl StateReader {
     {
         StateReader {
             alloc,
-            taken: Taken::Head([0; HEAD_LEN], 0),
+            taken: TakenBytes::Head([0; HEAD_LEN], 0),
         }
     }
 
@@ -161,7 +161,7 @@ impl StateReader {
         ensures head { (bytes : List ℕ) → self.old ≡ so_far bytes
             → length bytes + length piece.now ≤ 13 → IsOk result }
     {
-        let taken = mem::replace(&mut self.taken, Taken::Failed);
+        let taken = mem::replace(&mut self.taken, TakenBytes::Failed);
         self.taken = taken.more(self.alloc, piece)?;
         Ok(())
     }
@@ -175,14 +175,14 @@ impl StateReader {
     pub fn finish(self) -> Result<Table<Row>, Kind>
         ensures valid { IfOk result IsValidTable }
         ensures bytes { IfOk result (IsReadTable self) }
-        ensures refused { IfErr result (IsUnread self) }
+        ensures refused { IfErr result (IsIntakeUnread self) }
         ensures opening { (version : Versions) → self ≡ so_far (table_bytes_in version empty)
             → IsOk result }
     {
         let StateReader { alloc, taken } = self;
         match taken {
-            Taken::Head(head, len) => decode(alloc, &head[..len]),
-            Taken::Rows(rows) => {
+            TakenBytes::Head(head, len) => decode(alloc, &head[..len]),
+            TakenBytes::Rows(rows) => {
                 if rows.is_none() {
                     return Ok(Table::new(alloc));
                 }
@@ -192,9 +192,9 @@ impl StateReader {
                 }
                 Ok(table)
             }
-            Taken::OtherVersion => Err(Kind::Version),
-            Taken::NoState => Err(Kind::NotState),
-            Taken::Failed => Err(Kind::Failed),
+            TakenBytes::OtherVersion => Err(Kind::Version),
+            TakenBytes::NoState => Err(Kind::NotState),
+            TakenBytes::Failed => Err(Kind::Failed),
         }
     }
 }

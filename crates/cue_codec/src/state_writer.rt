@@ -7,7 +7,7 @@ ghost use Rattle.cue_codec.specs.State.{table_bytes};
 ghost use Rattle.cue_table.specs.Valid.{IsValidTable};
 
 use crate::encoding::begin;
-use crate::row_walk::Walk;
+use crate::row_walk::RowWalk;
 use cue_lattice::Memory;
 use cue_row::Row;
 use cue_table::Table;
@@ -22,7 +22,7 @@ pub struct StateWriter<'a> {
     ready: Vec<u8>,
     /// How many of them were handed out.
     taken: usize,
-    walk: Walk<'a>,
+    walk: RowWalk<'a>,
 }
 
 impl<'a> Model for StateWriter<'a> {
@@ -48,7 +48,7 @@ pub fn drop_front(bytes: &mut Vec<u8>, count: usize)
 }
 
 /// Writes rows until there are so many bytes, or no row is left.
-fn write_ahead(ready: &mut Vec<u8>, walk: &mut Walk<'_>, wanted: usize) -> Result<(), Memory>
+fn write_ahead(ready: &mut Vec<u8>, walk: &mut RowWalk<'_>, wanted: usize) -> Result<(), Memory>
     requires { IsWalk walk.old }
     ensures walk { IsWalk walk.new }
     ensures same { ready.new.items ++ walk_bytes walk.new
@@ -69,7 +69,7 @@ fn write_ahead(ready: &mut Vec<u8>, walk: &mut Walk<'_>, wanted: usize) -> Resul
 fn make_ready(
     ready: &mut Vec<u8>,
     taken: &mut usize,
-    walk: &mut Walk<'_>,
+    walk: &mut RowWalk<'_>,
     wanted: usize,
 ) -> Result<(), Memory>
     requires within { taken.old ≤ length ready.old.items }

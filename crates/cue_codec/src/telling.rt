@@ -51,7 +51,7 @@ fn after_branch<'a>(version: Version, branch: &Branch<Row>, indexes: &'a [u64]) 
 }
 
 /// Whether the indexes of the rows of a table are these, in the order of the rows.
-pub fn tells(version: Version, table: &Table<Row>, indexes: &[u64]) -> bool
+pub fn has_indexes(version: Version, table: &Table<Row>, indexes: &[u64]) -> bool
     ensures { IsTrue result ↔ (indexes.now ≡ indexes_of version table.now) }
 {
     match after_branch(version, &table.root(), indexes) {

@@ -11,7 +11,7 @@ ghost use Rattle.cue_codec.specs.Parts.{integer_bytes, counted_bytes, piece_byte
 ghost use Rattle.cue_codec.specs.Parts.{flags, text_set_bytes, set_bytes, labels_bytes, most_bytes};
 ghost use Rattle.cue_codec.specs.Parts.{lengths_bytes, step_bytes};
 ghost use Rattle.cue_codec.specs.Reading.{IsShort, IsShortStep, AreShortLabels};
-ghost use Rattle.cue_codec.specs.Version.{written};
+ghost use Rattle.cue_codec.specs.Version.{written_version};
 
 use cue_lattice::{Memory, Text};
 use cue_row::Scalars;
@@ -170,7 +170,7 @@ pub fn put_lengths(
 ) -> Result<(), Memory>
     requires { fixed < 2 ^ 32 }
     ensures written { OnOk result (out.new.items ≡ out.old.items
-        ++ lengths_bytes written (least, most, fixed)) }
+        ++ lengths_bytes written_version (least, most, fixed)) }
     ensures kept { OnErr result (StillBegins out.old.items out.new.items) }
 {
     out.extend_from_slice(&least.to_be_bytes())?;
@@ -184,7 +184,7 @@ pub fn put_lengths(
 pub fn put_step(out: &mut Vec<u8>, step: StepRef) -> Result<(), Memory>
     requires { IsShortStep (step_at step) }
     ensures written { OnOk result (out.new.items ≡ out.old.items
-        ++ step_bytes written (at (step_at step.entry))) }
+        ++ step_bytes written_version (at (step_at step.entry))) }
     ensures kept { OnErr result (StillBegins out.old.items out.new.items) }
 {
     match step {
@@ -203,7 +203,7 @@ pub fn put_step(out: &mut Vec<u8>, step: StepRef) -> Result<(), Memory>
 /// Writes the step to the rest of a list.
 #[tactic(auto, unfolding(crate::specs::Parts::step_bytes))]
 pub fn put_rest(out: &mut Vec<u8>) -> Result<(), Memory>
-    ensures written { OnOk result (out.new.items ≡ out.old.items ++ step_bytes written to_rest) }
+    ensures written { OnOk result (out.new.items ≡ out.old.items ++ step_bytes written_version to_rest) }
     ensures kept { OnErr result (StillBegins out.old.items out.new.items) }
 {
     out.push(2)?;

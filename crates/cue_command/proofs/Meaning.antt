@@ -11,8 +11,8 @@ use Rattle.clap.specs.declared.error.Error.{Error}
 use Rattle.clap.specs.declared.error.kind.ErrorKind.TheVariants.{OutOfMemory}
 use Rattle.clap.specs.declared.parser.matches.ArgMatches.{ArgMatches}
 use Rattle.cue_command.specs.inner.Apps.{store}
-use Rattle.cue_command.specs.inner.Rows.{meaning}
-use Rattle.cue_command.specs.Words.{asked}
+use Rattle.cue_command.specs.inner.Rows.{meaning_of_rows}
+use Rattle.cue_command.specs.Words.{meaning_of_words}
 use Rattle.cue_command.proofs.Machines.{AllText}
 use Rattle.cue_command.proofs.Tops.{agrees}
 use Rattle.cue_command.proofs.Walking.{IsFault}
@@ -32,9 +32,9 @@ no_fault a e f = subst IsFault e f
 
 -- where `clap` finds matches
 pub found_is : (app : App) (words : List Text) (m : ArgMatches) → app ≡ store → AllText words → (is_simple_and_free app ≡ true → fault_of app words ≡ []) → HasMatchesOf app words m
-    → asked words ≡ option_and_then (λ p. meaning p.0 p.1) (subcommand_rows_of m)
+    → meaning_of_words words ≡ option_and_then (λ p. meaning_of_rows p.0 p.1) (subcommand_rows_of m)
 found_is app words m is text passes has = elim (agrees words text) [
-  | inl a ↦ a.1 ∙ sym (ap (λ o. option_and_then (λ (p : Text × List Row). meaning p.0 p.1) o) ((has (ap is_simple is ∙ store_is_simple)).1 ∙ ap (λ (x : App). subcommand_of x words) is))
+  | inl a ↦ a.1 ∙ sym (ap (λ o. option_and_then (λ (p : Text × List Row). meaning_of_rows p.0 p.1) o) ((has (ap is_simple is ∙ store_is_simple)).1 ∙ ap (λ (x : App). subcommand_of x words) is))
   | inr b ↦ absurd (no_fault (fault_of store words) (ap (λ (x : App). fault_of x words) (sym is) ∙ passes (ap is_simple_and_free is ∙ store_is_free)) b.0)
 ]
 
@@ -43,7 +43,7 @@ none_among e a is among = subst (IsAmong (kind_of e)) is among
 
 -- where it refuses the words
 pub refused_is : (app : App) (words : List Text) (e : Error) → app ≡ store → AllText words → (is_simple_and_free app ≡ true → HasKind (fault_of app words) e) → (kind_of e ≡ OutOfMemory → ⊥)
-    → asked words ≡ None
+    → meaning_of_words words ≡ None
 refused_is app words e is text has not_memory = elim (agrees words text) [
   | inl a ↦ absurd (elim (has (ap is_simple_and_free is ∙ store_is_free)) [
     | inl m ↦ not_memory m

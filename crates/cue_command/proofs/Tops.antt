@@ -10,9 +10,9 @@ use Rattle.clap.specs.Faults.{check_fault, defaults_fault, entered_fault, fault_
 use Rattle.clap.proofs.FaultLemmas.{stopped_fault}
 use Rattle.clap.proofs.WalkLemmas.{walk_stopped}
 use Rattle.cue_command.specs.inner.Apps.{store}
-use Rattle.cue_command.specs.inner.Rows.{files_in, meaning}
-use Rattle.cue_program.specs.declared.Question.TheVariants as questions
-use Rattle.cue_command.specs.Words.{arguments, asked, asking, is_option, looping, meant, merged, merging, number_in, port_limit, pushed, pushing, served}
+use Rattle.cue_command.specs.inner.Rows.{files_in, meaning_of_rows}
+use Rattle.cue_program.specs.declared.SiteQuestion.TheVariants as questions
+use Rattle.cue_command.specs.Words.{arguments, meaning_of_words, asking, is_option, looping, meaning_of, merge_words, merging, number_in, port_limit, push_words, pushing, serve_words}
 use Rattle.cue_command.proofs.Looks.{Flag, flag_of, has_char, long, plain_long, plain_short, short}
 use Rattle.cue_command.proofs.Walking.{IsFault, first_fault, later_fault}
 use Rattle.cue_command.proofs.Machines.{AllText, Ends}
@@ -20,8 +20,8 @@ use Rattle.cue_command.proofs.Leaves.{file_rows, files_end, files_leaf, first_en
 
 -- the words' kinds of fault and subcommand say what is asked for
 abbrev pub Agrees : List Text → Type 0
-Agrees words = ((fault_of store words ≡ []) × (asked words ≡ option_and_then (λ p. meaning p.0 p.1) (subcommand_of store words)))
-    ⊎ (IsFault (fault_of store words) × (asked words ≡ None))
+Agrees words = ((fault_of store words ≡ []) × (meaning_of_words words ≡ option_and_then (λ p. meaning_of_rows p.0 p.1) (subcommand_of store words)))
+    ⊎ (IsFault (fault_of store words) × (meaning_of_words words ≡ None))
 
 abbrev top : Shape
 top = (built store).top
@@ -66,17 +66,17 @@ module _ (name : Text) (leaf : Shape) (rest : List Text) (goes : walked [] (name
   named_subcommand : subcommand_of store (name ∷ rest) ≡ Some (name, rows_after leaf.rules [] rest)
   named_subcommand = ap (λ (w : Walk). entered (built store) w.stopped) walk_is ∙ entered_is
 
-  agrees_at : (rows_of : List Text → Option (List Row)) → ((files : List Text) → meant name files ≡ option_and_then (meaning name) (rows_of files))
+  agrees_at : (rows_of : List Text → Option (List Row)) → ((files : List Text) → meaning_of name files ≡ option_and_then (meaning_of_rows name) (rows_of files))
       → Ends leaf rest (option_and_then rows_of (arguments rest)) → Agrees (name ∷ rest)
   agrees_at rows_of means end = by_arguments (arguments rest) refl end
     where
-      by_rows : (rows : Option (List Row)) (asked_is : asked (name ∷ rest) ≡ option_and_then (meaning name) rows) → Ends leaf rest rows → Agrees (name ∷ rest)
-      by_rows (Some rows) is e = inl (named_fault ∙ e.0, is ∙ sym (ap (λ o. option_and_then (λ p. meaning p.0 p.1) o) named_subcommand ∙ ap (meaning name) e.1))
+      by_rows : (rows : Option (List Row)) (asked_is : meaning_of_words (name ∷ rest) ≡ option_and_then (meaning_of_rows name) rows) → Ends leaf rest rows → Agrees (name ∷ rest)
+      by_rows (Some rows) is e = inl (named_fault ∙ e.0, is ∙ sym (ap (λ o. option_and_then (λ p. meaning_of_rows p.0 p.1) o) named_subcommand ∙ ap (meaning_of_rows name) e.1))
       by_rows None is e = inr (subst IsFault (sym named_fault) e, is)
 
       by_arguments : (some : Option (List Text)) → arguments rest ≡ some → Ends leaf rest (option_and_then rows_of some) → Agrees (name ∷ rest)
-      by_arguments None is e = by_rows None (ap (λ o. option_and_then (meant name) o) is) e
-      by_arguments (Some files) is e = by_rows (rows_of files) (ap (λ o. option_and_then (meant name) o) is ∙ means files) e
+      by_arguments None is e = by_rows None (ap (λ o. option_and_then (meaning_of name) o) is) e
+      by_arguments (Some files) is e = by_rows (rows_of files) (ap (λ o. option_and_then (meaning_of name) o) is ∙ means files) e
 
 files_found : (files : List Text) → files ≡ files_in (file_rows files)
 files_found [] = refl
@@ -115,7 +115,7 @@ module _ (rest : List Text) (text : AllText rest) where
   loop_agrees = agrees_at (codes "loop") (files_leaf (codes "loop")) rest refl refl refl refl some_files
       (λ files. ap (λ fs. Some (looping fs)) (files_found files)) (files_end (codes "loop") rest text)
 
-  merge_means : (files : List Text) → merged files ≡ option_and_then (meaning (codes "merge")) (first_rows true files)
+  merge_means : (files : List Text) → merge_words files ≡ option_and_then (meaning_of_rows (codes "merge")) (first_rows true files)
   merge_means [] = refl
   merge_means (out ∷ files) = ap (λ fs. Some (merging out fs)) (first_found (row (codes "OUT") (out ∷ [])) files refl)
 
@@ -124,7 +124,7 @@ module _ (rest : List Text) (text : AllText rest) where
   merge_agrees = agrees_at (codes "merge") (first_leaf (codes "merge") (codes "OUT")) rest refl refl refl refl (first_rows true)
       merge_means (first_end (codes "merge") true rest text)
 
-  push_means : (files : List Text) → pushed files ≡ option_and_then (meaning (codes "push")) (first_rows false files)
+  push_means : (files : List Text) → push_words files ≡ option_and_then (meaning_of_rows (codes "push")) (first_rows false files)
   push_means [] = refl
   push_means (port ∷ files) = ap (λ fs. option_map (λ p. pushing p fs) (number_in port_limit port)) (first_found (row (codes "PORT") (port ∷ [])) files refl)
 
@@ -133,7 +133,7 @@ module _ (rest : List Text) (text : AllText rest) where
   push_agrees = agrees_at (codes "push") (first_leaf (codes "push") (codes "PORT")) rest refl refl refl refl (first_rows false)
       push_means (first_end (codes "push") false rest text)
 
-  serve_means : (files : List Text) → served files ≡ option_and_then (meaning (codes "serve")) (pair_rows files)
+  serve_means : (files : List Text) → serve_words files ≡ option_and_then (meaning_of_rows (codes "serve")) (pair_rows files)
   serve_means [] = refl
   serve_means (port ∷ []) = refl
   serve_means (port ∷ count ∷ []) = refl
@@ -168,7 +168,7 @@ module _ (word : Text) (text : IsUtf8 word) (no_export : bytes_eq word (codes "e
     swapped word (codes "loop") no_loop,
   ) refl
 
-  means_nothing : (files : Option (List Text)) → option_and_then (meant word) files ≡ None
+  means_nothing : (files : Option (List Text)) → option_and_then (meaning_of word) files ≡ None
   means_nothing None = refl
   means_nothing (Some files) = rw (no_export, no_print, no_report, no_state, no_merge, no_serve, no_push, no_loop) refl
 

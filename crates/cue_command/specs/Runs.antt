@@ -1,38 +1,38 @@
 -- Whole runs of the program, on devices whose bytes are known or not.
 use Rattle.std.specs.Prelude.{◌≡◌, ◌⊎◌, ℕ, List, [], ◌++◌, Option, Some, None, Ok, Err, codes, true}
-use Rattle.cue_answer.specs.Answers.{IsShown, Says, code_of}
+use Rattle.cue_answer.specs.Answers.{IsShown, HasBytesAndStatus, code_of}
 use Rattle.cue_replica.specs.Language.{Table}
 use Rattle.cue_program.specs.declared.Answer.{Answer}
-use Rattle.cue_program.specs.declared.Question.{Question}
+use Rattle.cue_program.specs.declared.SiteQuestion.{SiteQuestion}
 use Rattle.cue_program.specs.declared.Status.{Status}
 use Rattle.cue_program.specs.declared.Status.TheVariants as statuses
-use Rattle.cue_program.specs.declared.Stop.{Stop}
-use Rattle.cue_program.specs.Calls.{Call}
+use Rattle.cue_program.specs.declared.RunError.{RunError}
+use Rattle.cue_program.specs.Calls.{FileCall}
 use Rattle.cue_program.specs.Files.{Holdings}
-use Rattle.cue_program.specs.Inputs.{Holds, Inputs, inputs_of}
-use Rattle.cue_program.specs.Outlets.{Adds, Breaks, IsUntouched, Passage}
+use Rattle.cue_program.specs.Inputs.{IsUnified, Inputs, inputs_of}
+use Rattle.cue_program.specs.Outlets.{AddsBytes, BreaksAfter, IsOutputUntouched, Passage}
 use Rattle.cue_program.specs.Runs.{IsAnswerAdded, IsMergeOn, IsMergeStopOn, IsStopOn}
-use Rattle.cue_command.specs.declared.fault.Fault.{Fault}
-use Rattle.cue_command.specs.declared.fault.Fault.TheVariants as faults
-use Rattle.cue_command.specs.Faults.{IsComplaint, IsMemory, IsTold, fault_of}
-use Rattle.cue_command.specs.Networks.{IsEndedBy, IsTalkOn, IsTalkStopOn, Reach}
-use Rattle.cue_command.specs.Words.{Asked, asking, merging, serving, pushing, looping, asked}
+use Rattle.cue_command.specs.declared.fault.CommandError.{CommandError}
+use Rattle.cue_command.specs.declared.fault.CommandError.TheVariants as faults
+use Rattle.cue_command.specs.Faults.{IsComplaint, IsMemoryFault, EndsByFault, fault_of}
+use Rattle.cue_command.specs.Networks.{IsNetworkEndedBy, IsTalkOn, IsTalkStopOn, NetworkReach}
+use Rattle.cue_command.specs.Words.{WordsMeaning, asking, merging, serving, pushing, looping, meaning_of_words}
 
 -- What stands around a run: what lies where, as far as that is known, and what the reader had; and
 -- what its calls came to: that none was made but those that only read; that a merge put the state
 -- of inputs at a name, or was stopped; and what the calls of a network came to.
-pub record Around : Type 1 where
+pub record RunWorld : Type 1 where
   pub held : Option Holdings
   pub input : Option (List ℕ)
   pub OnlyReads : Type 0
   pub Merges : List ℕ → Inputs → Type 0
-  pub StopsMerging : List ℕ → Inputs → Stop → Type 0
-  pub network : Reach
+  pub StopsMerging : List ℕ → Inputs → RunError → Type 0
+  pub network : NetworkReach
 
 -- it stands around a run between two moments of its runtime
-abbrev pub around : {S D M : Type 0} → (S → Option Holdings) → (S → Call D M → S → Type 0)
-    → Reach → S → S → Option (List ℕ) → Around
-around held Makes network old new input = record {
+abbrev pub run_world : {S D M : Type 0} → (S → Option Holdings) → (S → FileCall D M → S → Type 0)
+    → NetworkReach → S → S → Option (List ℕ) → RunWorld
+run_world held Makes network old new input = record {
   held = held old;
   input = input;
   OnlyReads = new ≡ old;
@@ -43,10 +43,10 @@ around held Makes network old new input = record {
 
 -- The answer to what is asked for. Merging says nothing; and what a site is asked is told while it
 -- is made (`IsAnswerWritten`).
-abbrev pub IsAnswerTo : Asked → Around → Answer → Type 0
+abbrev pub IsAnswerTo : WordsMeaning → RunWorld → Answer → Type 0
 IsAnswerTo (asking question files) at answer = ⊥
 IsAnswerTo (merging out files) at answer =
-    at.Merges out (inputs_of at.held files at.input) × Says answer [] statuses.Done
+    at.Merges out (inputs_of at.held files at.input) × HasBytesAndStatus answer [] statuses.Done
 IsAnswerTo (serving port count) at answer =
     at.network.Serves port count (Ok answer) × at.OnlyReads
 IsAnswerTo (pushing port files) at answer =
@@ -56,13 +56,13 @@ IsAnswerTo (looping files) at answer =
     IsTalkOn at.network.Loops (inputs_of at.held files at.input) (Ok answer) × at.OnlyReads
 
 -- What stops what is asked for.
-abbrev pub IsStopTo : Asked → Around → Stop → Type 0
+abbrev pub IsStopTo : WordsMeaning → RunWorld → RunError → Type 0
 IsStopTo (asking question files) at stop =
     IsStopOn (inputs_of at.held files at.input) stop × at.OnlyReads
 IsStopTo (merging out files) at stop =
     at.StopsMerging out (inputs_of at.held files at.input) stop
 IsStopTo (serving port count) at stop =
-    IsEndedBy (λ halt. at.network.Serves port count (Err halt)) stop × at.OnlyReads
+    IsNetworkEndedBy (λ halt. at.network.Serves port count (Err halt)) stop × at.OnlyReads
 IsStopTo (pushing port files) at stop =
     IsTalkStopOn (at.network.Pushes port) (inputs_of at.held files at.input) stop
     × at.OnlyReads
@@ -70,44 +70,44 @@ IsStopTo (looping files) at stop =
     IsTalkStopOn at.network.Loops (inputs_of at.held files at.input) stop × at.OnlyReads
 
 -- the words ask for something, to which this is the answer
-abbrev pub IsAnswerToWords : List (List ℕ) → Around → Answer → Type 0
+abbrev pub IsAnswerToWords : List (List ℕ) → RunWorld → Answer → Type 0
 IsAnswerToWords words at answer =
-    (what : Asked) × (asked words ≡ Some what) × IsAnswerTo what at answer
+    (what : WordsMeaning) × (meaning_of_words words ≡ Some what) × IsAnswerTo what at answer
 
 -- why there is no answer to the words: they ask for nothing, or memory ran out before anything was
 -- read, or what they ask for was stopped
-abbrev pub IsFaultOfWords : List (List ℕ) → Around → Fault → Type 0
+abbrev pub IsFaultOfWords : List (List ℕ) → RunWorld → CommandError → Type 0
 IsFaultOfWords words at fault =
-    ((fault ≡ faults.Usage) × (asked words ≡ None) × at.OnlyReads)
-    ⊎ (IsMemory fault × at.OnlyReads)
-    ⊎ ((what : Asked) × (asked words ≡ Some what)
-    × ((stop : Stop) × IsStopTo what at stop × (fault ≡ fault_of stop)))
+    ((fault ≡ faults.Usage) × (meaning_of_words words ≡ None) × at.OnlyReads)
+    ⊎ (IsMemoryFault fault × at.OnlyReads)
+    ⊎ ((what : WordsMeaning) × (meaning_of_words words ≡ Some what)
+    × ((stop : RunError) × IsStopTo what at stop × (fault ≡ fault_of stop)))
 
 -- the run ends with an answer to the words: its bytes were added to the output, the status is the
 -- answer's, and where faults go nothing was added
-abbrev pub IsAnswered : List (List ℕ) → Around → Passage → Passage → ℕ → Type 0
-IsAnswered words at out faults status =
+abbrev pub IsRunAnswered : List (List ℕ) → RunWorld → Passage → Passage → ℕ → Type 0
+IsRunAnswered words at out faults status =
     (answer : Answer) × IsAnswerToWords words at answer × (status ≡ code_of answer.status)
-    × Adds out answer.bytes.items × IsUntouched faults
+    × AddsBytes out answer.bytes.items × IsOutputUntouched faults
 
 -- the run ends with a fault of the words, which is told
-abbrev pub IsStopped : List (List ℕ) → Around → Passage → Passage → ℕ → Type 0
+abbrev pub IsStopped : List (List ℕ) → RunWorld → Passage → Passage → ℕ → Type 0
 IsStopped words at out faults status =
-    (fault : Fault) × IsFaultOfWords words at fault × IsTold fault status out faults
+    (fault : CommandError) × IsFaultOfWords words at fault × EndsByFault fault status out faults
 
 -- an answer to the words could not be written: some of it in front was, then a call of the output
 -- failed, and that is told where faults go
-abbrev pub IsUnwritten : List (List ℕ) → Around → Passage → Passage → ℕ → Type 0
+abbrev pub IsUnwritten : List (List ℕ) → RunWorld → Passage → Passage → ℕ → Type 0
 IsUnwritten words at out faults status =
     (answer : Answer) × IsAnswerToWords words at answer × (status ≡ 4)
-    × Breaks out answer.bytes.items × IsComplaint faults
+    × BreaksAfter out answer.bytes.items × IsComplaint faults
 
 -- the words ask this about inputs, all of which a site has taken that holds this table; no file
 -- changed
-abbrev pub IsAskedOf : List (List ℕ) → Around → Question → Table → Type 0
+abbrev pub IsAskedOf : List (List ℕ) → RunWorld → SiteQuestion → Table → Type 0
 IsAskedOf words at question table =
-    (files : List (List ℕ)) × (asked words ≡ Some (asking question files))
-    × Holds (inputs_of at.held files at.input) table
+    (files : List (List ℕ)) × (meaning_of_words words ≡ Some (asking question files))
+    × IsUnified (inputs_of at.held files at.input) table
     × at.OnlyReads
 
 -- these bytes, or some of them in front and then the line that tells that memory ran out
@@ -120,29 +120,29 @@ IsCutBy bytes said =
 -- output, and the status is the answer's; or what was made before memory ran out, and then the line
 -- that tells it; or some of that in front, and then a call of the output failed, which is told
 -- where faults go.
-abbrev pub IsAnswerTold : Question → Table → Passage → Passage → ℕ → Type 0
-IsAnswerTold question table out faults status =
+abbrev pub EndsByAnswer : SiteQuestion → Table → Passage → Passage → ℕ → Type 0
+EndsByAnswer question table out faults status =
     ((ended : Status) × (status ≡ code_of ended) × IsAnswerAdded question table out ended
-    × IsUntouched faults)
+    × IsOutputUntouched faults)
     ⊎ ((status ≡ 1)
     × ((shown : List ℕ) (ended : Status) → IsShown question table shown ended
-    → (said : List ℕ) × IsCutBy shown said × Adds out said)
-    × IsUntouched faults)
+    → (said : List ℕ) × IsCutBy shown said × AddsBytes out said)
+    × IsOutputUntouched faults)
     ⊎ ((status ≡ 4) × (out.has_failed ≡ true)
     × ((shown : List ℕ) (ended : Status) → IsShown question table shown ended
-    → (said : List ℕ) × ((said ≡ shown) ⊎ IsCutBy shown said) × Breaks out said)
+    → (said : List ℕ) × ((said ≡ shown) ⊎ IsCutBy shown said) × BreaksAfter out said)
     × IsComplaint faults)
 
 -- the run writes the answer that the words ask for
-abbrev pub IsAnswerWritten : List (List ℕ) → Around → Passage → Passage → ℕ → Type 0
+abbrev pub IsAnswerWritten : List (List ℕ) → RunWorld → Passage → Passage → ℕ → Type 0
 IsAnswerWritten words at out faults status =
-    (question : Question) × (table : Table) × IsAskedOf words at question table
-    × IsAnswerTold question table out faults status
+    (question : SiteQuestion) × (table : Table) × IsAskedOf words at question table
+    × EndsByAnswer question table out faults status
 
 -- How a run on these words ends, by what became of the output and of where faults go.
-abbrev pub IsRun : List (List ℕ) → Around → Passage → Passage → ℕ → Type 0
+abbrev pub IsRun : List (List ℕ) → RunWorld → Passage → Passage → ℕ → Type 0
 IsRun words at out faults status =
-    IsAnswered words at out faults status
+    IsRunAnswered words at out faults status
     ⊎ IsStopped words at out faults status
     ⊎ IsUnwritten words at out faults status
     ⊎ IsAnswerWritten words at out faults status

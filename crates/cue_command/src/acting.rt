@@ -1,20 +1,21 @@
 ghost use Rattle.std.specs.Prelude.{◌≡◌, ◌⊎◌, ◌++◌, IfOk, IfErr, List, ℕ, codes, map, string_bytes};
-ghost use Rattle.cue_wire.specs.Connections.{moment};
-ghost use Rattle.cue_command.specs.Faults.{IsComplaint, IsMemory, IsRefused, IsTold, refusal_text};
-ghost use Rattle.cue_command.specs.Networks.{reach};
-ghost use Rattle.cue_command.specs.Runs.{around, IsAnswerTo, IsFaultOfWords, IsRun, IsStopTo};
-ghost use Rattle.cue_command.specs.inner.Replies.{IsReplyTo, IsReplyTold, IsReplyToWords};
-ghost use Rattle.cue_command.specs.Words.{asked_by, merging};
-ghost use Rattle.cue_program.specs.Files.{texts};
-ghost use Rattle.cue_program.specs.Outlets.{passed};
+ghost use Rattle.cue_wire.specs.Connections.{moment_of};
+ghost use Rattle.cue_command.specs.Faults.{IsComplaint, IsMemoryFault, IsRefusedFault, EndsByFault, refusal_text};
+ghost use Rattle.cue_command.specs.Networks.{reach_of};
+ghost use Rattle.cue_command.specs.Runs.{run_world, IsAnswerTo, IsFaultOfWords, IsRun, IsStopTo};
+ghost use Rattle.cue_command.specs.inner.Replies.{IsReplyTo, EndsByReply, IsReplyToWords};
+ghost use Rattle.cue_command.specs.Words.{asked_by_words, merging};
+ghost use Rattle.cue_program.specs.Files.{texts_of_files};
+ghost use Rattle.cue_program.specs.Outlets.{passage_of};
 
 use crate::command::{Command, command_of, given_words};
-use crate::fault::{Fault, LINE, RunRefusal, text_of};
-use crate::network::{looped, pushed, served};
+use crate::fault::{CommandError, LINE, RunRefusal, text_of};
+use crate::network::{loop_inputs, push_inputs, serve_port};
 use arrayvec::ArrayString;
 use cue_net::Network;
 use cue_program::{
-    Answer, Outlet, Question, Replica, Shelf, Status, Stop, merge_into, site_for, tell,
+    Answer, FileSystem, Output, Replica, RunError, SiteQuestion, Status, merge_into, site_for,
+    write_out,
 };
 use std::alloc::Global;
 use std::env::Env;
@@ -46,17 +47,17 @@ pub fn act<H, R: Read, W: Write, F: Write>(
     rt: &mut H,
     words: &[String],
     input: &mut R,
-    out: &mut Outlet<W>,
-    faults: &mut Outlet<F>,
+    out: &mut Output<W>,
+    faults: &mut Output<F>,
 ) -> u8
 where
-    H: AllocGlobal + Shelf + Network,
+    H: AllocGlobal + FileSystem + Network,
     ensures { IsRun (map string_bytes words.now)
-        (around H.held H.makes (reach (H.opens rt.old) (H.lets_in rt.old) (H.reaches rt.old)
-        (H.joins rt.old) (H.fails rt.old) (moment H.Input.given H.Input.to_come H.Output.taken
+        (run_world H.held H.makes (reach_of (H.opens rt.old) (H.lets_in rt.old) (H.reaches rt.old)
+        (H.joins rt.old) (H.fails rt.old) (moment_of H.Input.given H.Input.to_come H.Output.taken
         H.Input.called H.Output.called H.Input.failed H.Output.failed))
         rt.old rt.new (R.remaining input.old))
-        (passed W.contents out.old out.new) (passed F.contents faults.old faults.new) result }
+        (passage_of W.contents out.old out.new) (passage_of F.contents faults.old faults.new) result }
 {
     match reply_to(rt, words, input) {
         Ok(reply) => {
@@ -74,20 +75,20 @@ where
 pub fn run<H, R: Read, W: Write, F: Write>(
     rt: &mut H,
     input: &mut R,
-    out: &mut Outlet<W>,
-    faults: &mut Outlet<F>,
+    out: &mut Output<W>,
+    faults: &mut Output<F>,
 ) -> u8
 where
-    H: AllocGlobal + Env + Shelf + Network,
+    H: AllocGlobal + Env + FileSystem + Network,
     ensures { ((words : List (List ℕ)) × IsRun words
-        (around H.held H.makes (reach (H.opens rt.old) (H.lets_in rt.old) (H.reaches rt.old)
-        (H.joins rt.old) (H.fails rt.old) (moment H.Input.given H.Input.to_come H.Output.taken
+        (run_world H.held H.makes (reach_of (H.opens rt.old) (H.lets_in rt.old) (H.reaches rt.old)
+        (H.joins rt.old) (H.fails rt.old) (moment_of H.Input.given H.Input.to_come H.Output.taken
         H.Input.called H.Output.called H.Input.failed H.Output.failed))
         rt.old rt.new (R.remaining input.old))
-        (passed W.contents out.old out.new) (passed F.contents faults.old faults.new) result)
-        ⊎ ((fault : Fault) × ((fault ≡ Fault.Usage) ⊎ IsMemory fault)
-        × IsTold fault result
-        (passed W.contents out.old out.new) (passed F.contents faults.old faults.new)
+        (passage_of W.contents out.old out.new) (passage_of F.contents faults.old faults.new) result)
+        ⊎ ((fault : Fault) × ((fault ≡ Fault.Usage) ⊎ IsMemoryFault fault)
+        × EndsByFault fault result
+        (passage_of W.contents out.old out.new) (passage_of F.contents faults.old faults.new)
         × (rt.new ≡ rt.old)) }
 {
     match given_words(&*rt) {
@@ -102,28 +103,28 @@ enum Reply {
     /// An answer, whole.
     Answer(Answer),
     /// What this site answers, which is made while it is written.
-    Site(Question, Replica),
+    Site(SiteQuestion, Replica),
 }
 
 /// What the command that the words ask for prints.
-fn reply_to<H, R: Read>(rt: &mut H, words: &[String], input: &mut R) -> Result<Reply, Fault>
+fn reply_to<H, R: Read>(rt: &mut H, words: &[String], input: &mut R) -> Result<Reply, CommandError>
 where
-    H: AllocGlobal + Shelf + Network,
+    H: AllocGlobal + FileSystem + Network,
     ensures reply { IfOk result (IsReplyToWords (map string_bytes words.now)
-        (around H.held H.makes (reach (H.opens rt.old) (H.lets_in rt.old) (H.reaches rt.old)
-        (H.joins rt.old) (H.fails rt.old) (moment H.Input.given H.Input.to_come H.Output.taken
+        (run_world H.held H.makes (reach_of (H.opens rt.old) (H.lets_in rt.old) (H.reaches rt.old)
+        (H.joins rt.old) (H.fails rt.old) (moment_of H.Input.given H.Input.to_come H.Output.taken
         H.Input.called H.Output.called H.Input.failed H.Output.failed))
         rt.old rt.new (R.remaining input.old))) }
     ensures fault { IfErr result (IsFaultOfWords (map string_bytes words.now)
-        (around H.held H.makes (reach (H.opens rt.old) (H.lets_in rt.old) (H.reaches rt.old)
-        (H.joins rt.old) (H.fails rt.old) (moment H.Input.given H.Input.to_come H.Output.taken
+        (run_world H.held H.makes (reach_of (H.opens rt.old) (H.lets_in rt.old) (H.reaches rt.old)
+        (H.joins rt.old) (H.fails rt.old) (moment_of H.Input.given H.Input.to_come H.Output.taken
         H.Input.called H.Output.called H.Input.failed H.Output.failed))
         rt.old rt.new (R.remaining input.old))) }
 {
     let command = command_of(rt.alloc(), words)?;
     match reply_for(rt, &command, input) {
         Ok(reply) => Ok(reply),
-        Err(stop) => Err(Fault::from(stop)),
+        Err(stop) => Err(CommandError::from(stop)),
     }
 }
 
@@ -131,36 +132,36 @@ where
 fn show<W: Write, F: Write>(
     alloc: Global,
     reply: &Reply,
-    out: &mut Outlet<W>,
-    faults: &mut Outlet<F>,
+    out: &mut Output<W>,
+    faults: &mut Output<F>,
 ) -> u8
-    ensures { IsReplyTold reply.now (passed W.contents out.old out.new)
-        (passed F.contents faults.old faults.new) result }
+    ensures { EndsByReply reply.now (passage_of W.contents out.old out.new)
+        (passage_of F.contents faults.old faults.new) result }
 {
     match reply {
-        Reply::Answer(answer) => match out.tell(&answer.bytes) {
+        Reply::Answer(answer) => match out.write_out(&answer.bytes) {
             Ok(()) => answer.status.code(),
-            Err(_) => report(&Fault::Device, out, faults),
+            Err(_) => report(&CommandError::Device, out, faults),
         },
-        Reply::Site(question, site) => match tell(alloc, *question, site, out) {
+        Reply::Site(question, site) => match write_out(alloc, *question, site, out) {
             Ok(status) => status.code(),
-            Err(stop) => report(&Fault::from(stop), out, faults),
+            Err(stop) => report(&CommandError::from(stop), out, faults),
         },
     }
 }
 
 /// What is printed for a command.
-fn reply_for<H, R: Read>(rt: &mut H, command: &Command, input: &mut R) -> Result<Reply, Stop>
+fn reply_for<H, R: Read>(rt: &mut H, command: &Command, input: &mut R) -> Result<Reply, RunError>
 where
-    H: AllocGlobal + Shelf + Network,
-    ensures reply { IfOk result (IsReplyTo (asked_by command.now)
-        (around H.held H.makes (reach (H.opens rt.old) (H.lets_in rt.old) (H.reaches rt.old)
-        (H.joins rt.old) (H.fails rt.old) (moment H.Input.given H.Input.to_come H.Output.taken
+    H: AllocGlobal + FileSystem + Network,
+    ensures reply { IfOk result (IsReplyTo (asked_by_words command.now)
+        (run_world H.held H.makes (reach_of (H.opens rt.old) (H.lets_in rt.old) (H.reaches rt.old)
+        (H.joins rt.old) (H.fails rt.old) (moment_of H.Input.given H.Input.to_come H.Output.taken
         H.Input.called H.Output.called H.Input.failed H.Output.failed))
         rt.old rt.new (R.remaining input.old))) }
-    ensures stop { IfErr result (IsStopTo (asked_by command.now)
-        (around H.held H.makes (reach (H.opens rt.old) (H.lets_in rt.old) (H.reaches rt.old)
-        (H.joins rt.old) (H.fails rt.old) (moment H.Input.given H.Input.to_come H.Output.taken
+    ensures stop { IfErr result (IsStopTo (asked_by_words command.now)
+        (run_world H.held H.makes (reach_of (H.opens rt.old) (H.lets_in rt.old) (H.reaches rt.old)
+        (H.joins rt.old) (H.fails rt.old) (moment_of H.Input.given H.Input.to_come H.Output.taken
         H.Input.called H.Output.called H.Input.failed H.Output.failed))
         rt.old rt.new (R.remaining input.old))) }
 {
@@ -168,28 +169,28 @@ where
         Command::Ask { question, files } => {
             Ok(Reply::Site(*question, site_for(&*rt, files, input)?))
         }
-        Command::Merge { out, files } => Ok(Reply::Answer(merged(rt, out, files, input)?)),
-        Command::Serve { port, count } => Ok(Reply::Answer(served(&*rt, *port, *count)?)),
-        Command::Push { port, files } => Ok(Reply::Answer(pushed(&*rt, *port, files, input)?)),
-        Command::Loop { files } => Ok(Reply::Answer(looped(&*rt, files, input)?)),
+        Command::Merge { out, files } => Ok(Reply::Answer(merge_inputs(rt, out, files, input)?)),
+        Command::Serve { port, count } => Ok(Reply::Answer(serve_port(&*rt, *port, *count)?)),
+        Command::Push { port, files } => Ok(Reply::Answer(push_inputs(&*rt, *port, files, input)?)),
+        Command::Loop { files } => Ok(Reply::Answer(loop_inputs(&*rt, files, input)?)),
     }
 }
 
 /// Merges, and says nothing.
-fn merged<H: AllocGlobal + Shelf + Network, R: Read>(
+fn merge_inputs<H: AllocGlobal + FileSystem + Network, R: Read>(
     rt: &mut H,
     out: &str,
     files: &[&str],
     input: &mut R,
-) -> Result<Answer, Stop>
-    ensures answer { IfOk result (IsAnswerTo (merging out.now (texts files.now))
-        (around H.held H.makes (reach (H.opens rt.old) (H.lets_in rt.old) (H.reaches rt.old)
-        (H.joins rt.old) (H.fails rt.old) (moment H.Input.given H.Input.to_come H.Output.taken
+) -> Result<Answer, RunError>
+    ensures answer { IfOk result (IsAnswerTo (merging out.now (texts_of_files files.now))
+        (run_world H.held H.makes (reach_of (H.opens rt.old) (H.lets_in rt.old) (H.reaches rt.old)
+        (H.joins rt.old) (H.fails rt.old) (moment_of H.Input.given H.Input.to_come H.Output.taken
         H.Input.called H.Output.called H.Input.failed H.Output.failed))
         rt.old rt.new (R.remaining input.old))) }
-    ensures stop { IfErr result (IsStopTo (merging out.now (texts files.now))
-        (around H.held H.makes (reach (H.opens rt.old) (H.lets_in rt.old) (H.reaches rt.old)
-        (H.joins rt.old) (H.fails rt.old) (moment H.Input.given H.Input.to_come H.Output.taken
+    ensures stop { IfErr result (IsStopTo (merging out.now (texts_of_files files.now))
+        (run_world H.held H.makes (reach_of (H.opens rt.old) (H.lets_in rt.old) (H.reaches rt.old)
+        (H.joins rt.old) (H.fails rt.old) (moment_of H.Input.given H.Input.to_come H.Output.taken
         H.Input.called H.Output.called H.Input.failed H.Output.failed))
         rt.old rt.new (R.remaining input.old))) }
 {
@@ -203,42 +204,46 @@ fn merged<H: AllocGlobal + Shelf + Network, R: Read>(
 }
 
 /// Writes the line of what ended the run, and answers the exit status.
-pub fn report<W: Write, F: Write>(fault: &Fault, out: &mut Outlet<W>, faults: &mut Outlet<F>) -> u8
-    ensures { IsTold fault.now result (passed W.contents out.old out.new)
-        (passed F.contents faults.old faults.new) }
+pub fn report<W: Write, F: Write>(
+    fault: &CommandError,
+    out: &mut Output<W>,
+    faults: &mut Output<F>,
+) -> u8
+    ensures { EndsByFault fault.now result (passage_of W.contents out.old out.new)
+        (passage_of F.contents faults.old faults.new) }
 {
     match fault {
-        Fault::Usage | Fault::Device => {
+        CommandError::Usage | CommandError::Device => {
             complain(fault, faults);
             fault.status()
         }
-        Fault::Refused(refusal) => refuse(refusal, out, faults),
+        CommandError::Refused(refusal) => refuse(refusal, out, faults),
     }
 }
 
 /// Writes the line of a refusal.
 fn refuse<W: Write, F: Write>(
     refusal: &RunRefusal,
-    out: &mut Outlet<W>,
-    faults: &mut Outlet<F>,
+    out: &mut Output<W>,
+    faults: &mut Output<F>,
 ) -> u8
-    ensures { IsRefused (refusal_text refusal.now ++ codes "\n") result
-        (passed W.contents out.old out.new) (passed F.contents faults.old faults.new) }
+    ensures { IsRefusedFault (refusal_text refusal.now ++ codes "\n") result
+        (passage_of W.contents out.old out.new) (passage_of F.contents faults.old faults.new) }
 {
     let mut line = text_of(refusal);
     line.push_str("\n");
-    match out.tell(line.as_str().as_bytes()) {
+    match out.write_out(line.as_str().as_bytes()) {
         Ok(()) => 1,
         Err(_) => {
-            complain(&Fault::Device, faults);
+            complain(&CommandError::Device, faults);
             4
         }
     }
 }
 
 /// Tells of a fault where faults go, in one piece. Where nothing can be told, the status still is.
-fn complain<F: Write>(fault: &Fault, faults: &mut Outlet<F>)
-    ensures { IsComplaint (passed F.contents faults.old faults.new) }
+fn complain<F: Write>(fault: &CommandError, faults: &mut Output<F>)
+    ensures { IsComplaint (passage_of F.contents faults.old faults.new) }
 {
     let mut line = ArrayString::<LINE>::new();
     // No text of a fault fills the line.
@@ -246,5 +251,5 @@ fn complain<F: Write>(fault: &Fault, faults: &mut Outlet<F>)
         line.clear();
     }
     line.push_str("\n");
-    let _ = faults.tell(line.as_str().as_bytes());
+    let _ = faults.write_out(line.as_str().as_bytes());
 }

@@ -9,7 +9,7 @@ use clap::{Arg, ArgAction, Command};
 use std::alloc::{AllocError, Global};
 
 /// What help says of a command.
-fn about(name: &str) -> &'static str {
+fn help_of(name: &str) -> &'static str {
     match name {
         "export" => "Prints the JSON, or the conflicts, or what is incomplete",
         "print" => "Prints all that is known, as one text",
@@ -44,7 +44,7 @@ fn inputs<'a>(alloc: Global) -> Arg<'a>
 }
 
 /// An argument that must be there.
-fn taken<'a>(alloc: Global, id: &'a str) -> Arg<'a>
+fn required_argument<'a>(alloc: Global, id: &'a str) -> Arg<'a>
     ensures { (rule_of result ≡ taken_rule id.entry.now) × (result.global ≡ false) }
 {
     Arg::new(alloc, id)
@@ -58,17 +58,17 @@ fn of_files<'a>(alloc: Global, name: &'a str) -> Result<Command<'a>, AllocError>
     ensures { IfOk result (IsApp (of_files name.entry.now)) }
 {
     let inputs = inputs(alloc);
-    Command::new(alloc, name).about(about(name)).arg(inputs)
+    Command::new(alloc, name).about(help_of(name)).arg(inputs)
 }
 
 /// A command with an argument and inputs.
 fn of_first<'a>(alloc: Global, name: &'a str, first: &'a str) -> Result<Command<'a>, AllocError>
     ensures { IfOk result (IsApp (of_first name.entry.now first.entry.now)) }
 {
-    let first = taken(alloc, first);
+    let first = required_argument(alloc, first);
     let inputs = inputs(alloc);
     Command::new(alloc, name)
-        .about(about(name))
+        .about(help_of(name))
         .arg(first)?
         .arg(inputs)
 }
@@ -82,17 +82,17 @@ fn of_two<'a>(
 ) -> Result<Command<'a>, AllocError>
     ensures { IfOk result (IsApp (of_two name.entry.now first.entry.now second.entry.now)) }
 {
-    let first = taken(alloc, first);
-    let second = taken(alloc, second);
+    let first = required_argument(alloc, first);
+    let second = required_argument(alloc, second);
     Command::new(alloc, name)
-        .about(about(name))
+        .about(help_of(name))
         .arg(first)?
         .arg(second)
 }
 
 /// The program, before its commands are added. Its first word names the command; a request for help
 /// is no command, and no flag.
-fn bare<'a>(alloc: Global) -> Command<'a>
+fn base_app<'a>(alloc: Global) -> Command<'a>
     ensures { IsApp (record { top = top; subs = [] }) result }
 {
     Command::new(alloc, "cuestore")
@@ -115,7 +115,7 @@ pub fn store<'a>(alloc: Global) -> Result<Command<'a>, AllocError>
     let serve = of_two(alloc, "serve", "PORT", "COUNT")?;
     let push = of_first(alloc, "push", "PORT")?;
     let both = of_files(alloc, "loop")?;
-    let asking = bare(alloc)
+    let asking = base_app(alloc)
         .subcommand(export)?
         .subcommand(print)?
         .subcommand(report)?

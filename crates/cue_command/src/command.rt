@@ -9,16 +9,16 @@ ghost use Rattle.std.specs.declared.io.ErrorKind.TheVariants.{OutOfMemory};
 ghost use Rattle.clap.specs.Matches.{found_of};
 ghost use Rattle.clap.specs.Simple.{subcommand_rows_of};
 ghost use Rattle.clap.specs.Walk.{first_of, rows_of};
-ghost use Rattle.cue_program.specs.Files.{texts};
-ghost use Rattle.cue_command.specs.Faults.{IsMemory};
-ghost use Rattle.cue_command.specs.Words.{asked, asked_by, asking, looping, number_in};
-ghost use Rattle.cue_command.specs.inner.Rows.{files_in, meaning, merge_in, push_in, serve_in};
+ghost use Rattle.cue_program.specs.Files.{texts_of_files};
+ghost use Rattle.cue_command.specs.Faults.{IsMemoryFault};
+ghost use Rattle.cue_command.specs.Words.{meaning_of_words, asked_by_words, asking, looping, number_in};
+ghost use Rattle.cue_command.specs.inner.Rows.{files_in, meaning_of_rows, merge_in, push_in, serve_in};
 
 use crate::app::store;
-use crate::fault::{Fault, RunRefusal};
+use crate::fault::{CommandError, RunRefusal};
 use clap::ArgMatches;
 use clap::error::ErrorKind;
-use cue_program::{Kind, Question};
+use cue_program::{Kind, SiteQuestion};
 use std::alloc::{AllocError, Global};
 use std::env::{Args, Env};
 use std::{env, io};
@@ -28,7 +28,7 @@ use std::{env, io};
 pub enum Command<'w> {
     /// Print the answer to a question about the inputs.
     Ask {
-        question: Question,
+        question: SiteQuestion,
         files: Vec<&'w str>,
     },
     /// Put the state of the inputs at a name.
@@ -59,12 +59,12 @@ const MAX_PORT: u16 = 65_535;
 const MAX_COUNT: u16 = 1_000;
 
 /// The words after the program's name. One that is not UTF-8 is a usage fault.
-pub fn given_words<H: AllocGlobal + Env>(rt: &H) -> Result<Vec<String>, Fault>
-    ensures fault { IfErr result (λ fault. (fault ≡ Fault.Usage) ⊎ IsMemory fault) }
+pub fn given_words<H: AllocGlobal + Env>(rt: &H) -> Result<Vec<String>, CommandError>
+    ensures fault { IfErr result (λ fault. (fault ≡ Fault.Usage) ⊎ IsMemoryFault fault) }
 {
     match env::args(rt) {
         Ok(all) => Ok(after_the_name(rt.alloc(), all)?),
-        Err(error) => Err(unread(&error)),
+        Err(error) => Err(unread_fault(&error)),
     }
 }
 
@@ -76,14 +76,14 @@ fn after_the_name(alloc: Global, all: Args) -> Result<Vec<String>, AllocError>
 }
 
 /// What is told where the words can't be read.
-pub fn unread(error: &io::Error) -> Fault
-    ensures memory { error_kind error.now ≡ OutOfMemory → IsMemory result }
+pub fn unread_fault(error: &io::Error) -> CommandError
+    ensures memory { error_kind error.now ≡ OutOfMemory → IsMemoryFault result }
     ensures usage { error_kind error.now ≢ OutOfMemory → result ≡ Fault.Usage }
-    ensures fault { (result ≡ Fault.Usage) ⊎ IsMemory result }
+    ensures fault { (result ≡ Fault.Usage) ⊎ IsMemoryFault result }
 {
     match error.kind() {
-        io::ErrorKind::OutOfMemory => Fault::Refused(RunRefusal::Run(Kind::Memory)),
-        _ => Fault::Usage,
+        io::ErrorKind::OutOfMemory => CommandError::Refused(RunRefusal::Run(Kind::Memory)),
+        _ => CommandError::Usage,
     }
 }
 
@@ -92,70 +92,70 @@ pub fn unread(error: &io::Error) -> Fault
 /// # Errors
 ///
 /// `Usage` where they ask for nothing, and want of memory.
-pub fn command_of<'w>(alloc: Global, words: &'w [String]) -> Result<Command<'w>, Fault>
+pub fn command_of<'w>(alloc: Global, words: &'w [String]) -> Result<Command<'w>, CommandError>
     ensures asks { IfOk result (λ command.
-        asked (map string_bytes words.now) ≡ Some (asked_by command)) }
+        meaning_of_words (map string_bytes words.now) ≡ Some (asked_by_words command)) }
     ensures fault { IfErr result (λ fault.
-        ((fault ≡ Fault.Usage) × (asked (map string_bytes words.now) ≡ None))
-        ⊎ IsMemory fault) }
+        ((fault ≡ Fault.Usage) × (meaning_of_words (map string_bytes words.now) ≡ None))
+        ⊎ IsMemoryFault fault) }
 {
     let matches = matches_of(alloc, words)?;
     let command = read(alloc, &matches)?;
-    command.ok_or(Fault::Usage)
+    command.ok_or(CommandError::Usage)
 }
 
 /// What `clap` finds in the words.
-fn matches_of<'w>(alloc: Global, words: &'w [String]) -> Result<ArgMatches<'w>, Fault>
-    ensures found { IfOk result (λ matches. asked (map string_bytes words.now)
-        ≡ option_and_then (λ p. meaning p.0 p.1) (subcommand_rows_of matches)) }
+fn matches_of<'w>(alloc: Global, words: &'w [String]) -> Result<ArgMatches<'w>, CommandError>
+    ensures found { IfOk result (λ matches. meaning_of_words (map string_bytes words.now)
+        ≡ option_and_then (λ p. meaning_of_rows p.0 p.1) (subcommand_rows_of matches)) }
     ensures fault { IfErr result (λ fault.
-        ((fault ≡ Fault.Usage) × (asked (map string_bytes words.now) ≡ None))
-        ⊎ IsMemory fault) }
+        ((fault ≡ Fault.Usage) × (meaning_of_words (map string_bytes words.now) ≡ None))
+        ⊎ IsMemoryFault fault) }
 {
     let store = store(alloc)?;
     match store.try_get_matches_from(words) {
         Ok(matches) => Ok(matches),
-        Err(error) => Err(refused(error.kind())),
+        Err(error) => Err(usage_fault(error.kind())),
     }
 }
 
 /// What is told of words that `clap` refuses.
-fn refused(kind: ErrorKind) -> Fault
-    ensures memory { kind ≡ ErrorKind.OutOfMemory → IsMemory result }
-    ensures fault { (result ≡ Fault.Usage) ⊎ IsMemory result }
+fn usage_fault(kind: ErrorKind) -> CommandError
+    ensures memory { kind ≡ ErrorKind.OutOfMemory → IsMemoryFault result }
+    ensures fault { (result ≡ Fault.Usage) ⊎ IsMemoryFault result }
     ensures usage { result ≡ Fault.Usage → (kind ≡ ErrorKind.OutOfMemory → ⊥) }
 {
     match kind {
-        ErrorKind::OutOfMemory => Fault::Refused(RunRefusal::Run(Kind::Memory)),
-        _ => Fault::Usage,
+        ErrorKind::OutOfMemory => CommandError::Refused(RunRefusal::Run(Kind::Memory)),
+        _ => CommandError::Usage,
     }
 }
 
 /// The command that was found, where its numbers are in their ranges.
 fn read<'w>(alloc: Global, matches: &ArgMatches<'w>) -> Result<Option<Command<'w>>, AllocError>
-    ensures { IfOk result (λ command. option_map asked_by command
-        ≡ option_and_then (λ p. meaning p.0 p.1) (subcommand_rows_of matches.now)) }
+    ensures { IfOk result (λ command. option_map asked_by_words command
+        ≡ option_and_then (λ p. meaning_of_rows p.0 p.1) (subcommand_rows_of matches.now)) }
 {
     match matches.subcommand() {
-        Some((name, found)) => named(alloc, name, found),
+        Some((name, found)) => find_command(alloc, name, found),
         None => Ok(None),
     }
 }
 
 /// The command of this name, with what was found of its arguments.
-fn named<'w>(
+fn find_command<'w>(
     alloc: Global,
     name: &str,
     found: &ArgMatches<'w>,
 ) -> Result<Option<Command<'w>>, AllocError>
     ensures { IfOk result (λ command.
-        option_map asked_by command ≡ meaning name.now (rows_of (found_of found.now))) }
+        option_map asked_by_words command ≡ meaning_of_rows name.now (rows_of (found_of found.now))) }
 {
     match name {
-        "export" => ask(alloc, Question::Export, found),
-        "print" => ask(alloc, Question::Print, found),
-        "report" => ask(alloc, Question::Report, found),
-        "state" => ask(alloc, Question::State, found),
+        "export" => ask(alloc, SiteQuestion::Export, found),
+        "print" => ask(alloc, SiteQuestion::Print, found),
+        "report" => ask(alloc, SiteQuestion::Report, found),
+        "state" => ask(alloc, SiteQuestion::State, found),
         "merge" => merge(alloc, found),
         "serve" => Ok(serve(found)),
         "push" => push(alloc, found),
@@ -166,10 +166,10 @@ fn named<'w>(
 
 fn ask<'w>(
     alloc: Global,
-    question: Question,
+    question: SiteQuestion,
     found: &ArgMatches<'w>,
 ) -> Result<Option<Command<'w>>, AllocError>
-    ensures { IfOk result (λ command. option_map asked_by command
+    ensures { IfOk result (λ command. option_map asked_by_words command
         ≡ Some (asking question (files_in (rows_of (found_of found.now))))) }
 {
     let files = files(alloc, found)?;
@@ -177,7 +177,7 @@ fn ask<'w>(
 }
 
 fn both<'w>(alloc: Global, found: &ArgMatches<'w>) -> Result<Option<Command<'w>>, AllocError>
-    ensures { IfOk result (λ command. option_map asked_by command
+    ensures { IfOk result (λ command. option_map asked_by_words command
         ≡ Some (looping (files_in (rows_of (found_of found.now))))) }
 {
     let files = files(alloc, found)?;
@@ -186,7 +186,7 @@ fn both<'w>(alloc: Global, found: &ArgMatches<'w>) -> Result<Option<Command<'w>>
 
 fn merge<'w>(alloc: Global, found: &ArgMatches<'w>) -> Result<Option<Command<'w>>, AllocError>
     ensures { IfOk result (λ command.
-        option_map asked_by command ≡ merge_in (rows_of (found_of found.now))) }
+        option_map asked_by_words command ≡ merge_in (rows_of (found_of found.now))) }
 {
     let files = files(alloc, found)?;
     match text(found, "OUT") {
@@ -197,7 +197,7 @@ fn merge<'w>(alloc: Global, found: &ArgMatches<'w>) -> Result<Option<Command<'w>
 
 fn push<'w>(alloc: Global, found: &ArgMatches<'w>) -> Result<Option<Command<'w>>, AllocError>
     ensures { IfOk result (λ command.
-        option_map asked_by command ≡ push_in (rows_of (found_of found.now))) }
+        option_map asked_by_words command ≡ push_in (rows_of (found_of found.now))) }
 {
     let files = files(alloc, found)?;
     match number(found, "PORT", MAX_PORT) {
@@ -207,7 +207,7 @@ fn push<'w>(alloc: Global, found: &ArgMatches<'w>) -> Result<Option<Command<'w>>
 }
 
 fn serve<'w>(found: &ArgMatches<'w>) -> Option<Command<'w>>
-    ensures { option_map asked_by result ≡ serve_in (rows_of (found_of found.now)) }
+    ensures { option_map asked_by_words result ≡ serve_in (rows_of (found_of found.now)) }
 {
     let port = number(found, "PORT", MAX_PORT)?;
     let count = number(found, "COUNT", MAX_COUNT)?;
@@ -217,19 +217,19 @@ fn serve<'w>(found: &ArgMatches<'w>) -> Option<Command<'w>>
 /// The inputs that are named.
 fn files<'w>(alloc: Global, found: &ArgMatches<'w>) -> Result<Vec<&'w str>, AllocError>
     ensures { IfOk result (λ files.
-        texts files.items ≡ files_in (rows_of (found_of found.now))) }
+        texts_of_files files.items ≡ files_in (rows_of (found_of found.now))) }
 {
     match found.get_strs("FILE") {
-        Some(files) => listed(alloc, files),
+        Some(files) => copy_words(alloc, files),
         None => Ok(Vec::new(alloc)),
     }
 }
 
 /// The words, in a list of their own.
-fn listed<'w>(alloc: Global, words: &[&'w str]) -> Result<Vec<&'w str>, AllocError>
+fn copy_words<'w>(alloc: Global, words: &[&'w str]) -> Result<Vec<&'w str>, AllocError>
     ensures { IfOk result (λ list. list.items ≡ words.now) }
 {
-    words.iter().copied().collect(alloc)
+    words.iter().copy_body().collect(alloc)
 }
 
 /// The argument of this id.

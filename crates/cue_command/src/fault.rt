@@ -1,10 +1,10 @@
 ghost use Rattle.std.specs.Prelude.{◌≡◌, ◌++◌, ◌+◌, ◌<◌, ◌≤◌, [], decimal};
 ghost use Rattle.arrayvec.specs.ArrayString.{array_string_len};
-ghost use Rattle.cue_command.specs.Faults.{kind_text, refusal_text, status_of};
+ghost use Rattle.cue_command.specs.Faults.{kind_text, refusal_text, status_of_fault};
 ghost use Rattle.cue_command.specs.inner.Lines.{digit_limit, kind_limit, line_limit};
 
 use arrayvec::ArrayString;
-use cue_program::{Kind, Stop};
+use cue_program::{Kind, RunError};
 use cue_replica::Refusal;
 use itoa::Buffer;
 use std::alloc::{AllocError, AllocFailed};
@@ -12,7 +12,7 @@ use thiserror::Error;
 
 /// What ends a run before it has an answer.
 #[derive(Clone, Copy, Debug, PartialEq, Eq, Error)]
-pub enum Fault {
+pub enum CommandError {
     /// The arguments name nothing that the program does.
     #[error("usage fault")]
     Usage,
@@ -33,13 +33,13 @@ pub enum RunRefusal {
     Input(Refusal, usize),
 }
 
-impl Fault {
+impl CommandError {
     /// The exit status of a run that was stopped by it.
     pub fn status(&self) -> u8
-        ensures { result ≡ status_of self.now }
+        ensures { result ≡ status_of_fault self.now }
     {
         match self {
-            Fault::Device => 4,
+            CommandError::Device => 4,
             _ => 1,
         }
     }
@@ -89,36 +89,38 @@ fn push_number(text: &mut ArrayString<LINE>, number: u64)
     text.push_str(Buffer::new().format(number));
 }
 
-impl From<Stop> for Fault {
-    ghost use Rattle.cue_command.specs.Faults.{IsOf};
+impl From<RunError> for CommandError {
+    ghost use Rattle.cue_command.specs.Faults.{IsFaultOf};
 
-    ghost from_gives = { λ stop fault. IsOf stop fault };
+    ghost from_gives = { λ stop fault. IsFaultOf stop fault };
 
-    fn from(stop: Stop) -> Fault {
+    fn from(stop: RunError) -> CommandError {
         match stop {
-            Stop::Device => Fault::Device,
-            Stop::Refused(kind) => Fault::Refused(RunRefusal::Run(kind)),
-            Stop::RefusedInput(why, input) => Fault::Refused(RunRefusal::Input(why, input)),
+            RunError::Device => CommandError::Device,
+            RunError::Refused(kind) => CommandError::Refused(RunRefusal::Run(kind)),
+            RunError::RefusedInput(why, input) => CommandError::Refused(RunRefusal::Input(
+                why, input,
+            )),
         }
     }
 }
 
-impl From<AllocError> for Fault {
-    ghost use Rattle.cue_command.specs.Faults.{IsMemory};
+impl From<AllocError> for CommandError {
+    ghost use Rattle.cue_command.specs.Faults.{IsMemoryFault};
 
-    ghost from_gives = { λ _ fault. IsMemory fault };
+    ghost from_gives = { λ _ fault. IsMemoryFault fault };
 
-    fn from(_error: AllocError) -> Fault {
-        Fault::Refused(RunRefusal::Run(Kind::Memory))
+    fn from(_error: AllocError) -> CommandError {
+        CommandError::Refused(RunRefusal::Run(Kind::Memory))
     }
 }
 
-impl<T: Drop> From<AllocFailed<T>> for Fault {
-    ghost use Rattle.cue_command.specs.Faults.{IsMemory};
+impl<T: Drop> From<AllocFailed<T>> for CommandError {
+    ghost use Rattle.cue_command.specs.Faults.{IsMemoryFault};
 
-    ghost from_gives = { λ _ fault. IsMemory fault };
+    ghost from_gives = { λ _ fault. IsMemoryFault fault };
 
-    fn from(_error: AllocFailed<T>) -> Fault {
-        Fault::Refused(RunRefusal::Run(Kind::Memory))
+    fn from(_error: AllocFailed<T>) -> CommandError {
+        CommandError::Refused(RunRefusal::Run(Kind::Memory))
     }
 }

@@ -10,5 +10,5 @@ mod network;
 
 pub use acting::{act, report, run};
 pub use app::store;
-pub use command::{Command, command_of, given_words, number_in, unread};
-pub use fault::{Fault, LINE, RunRefusal, text_of};
+pub use command::{Command, command_of, given_words, number_in, unread_fault};
+pub use fault::{CommandError, LINE, RunRefusal, text_of};

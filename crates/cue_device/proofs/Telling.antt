@@ -5,7 +5,7 @@ use Rattle.std.specs.Io.KnownBytes.{Appends}
 use Rattle.std.specs.declared.result.Result.{Result}
 use Rattle.std.specs.declared.result.Result.TheVariants.{Ok, Err}
 use Rattle.std.proofs.lemmas.List.{append-nil}
-use Rattle.cue_device.specs.Texts.{Begins}
+use Rattle.cue_device.specs.Texts.{WritesPrefix}
 use Rattle.cue_device.proofs.Texts.{appends_none, appends_then, begins_none, begins_now, begins_later}
 
 -- What a loop wrote so far, with what is left, is the whole.
@@ -34,21 +34,21 @@ tells_all old now left whole e t = subst (Appends old now) (sym (append-nil t.do
 -- a piece is not written whole
 pub tells_part :
     (old now next : Option (List ℕ)) (piece others left whole : List ℕ) → left ≡ piece ++ others
-    → IsTelling old now left whole → Begins now next piece → Begins old next whole
+    → IsTelling old now left whole → WritesPrefix now next piece → WritesPrefix old next whole
 tells_part old now next piece others left whole e t b =
-    subst (Begins old next) (ap (λ x. t.done ++ x) (sym e) ∙ t.text)
+    subst (WritesPrefix old next) (ap (λ x. t.done ++ x) (sym e) ∙ t.text)
     (begins_later old now next t.done (piece ++ others) t.added (begins_now now next piece others b))
 
 -- nothing more is written
-pub tells_no_more : (old now : Option (List ℕ)) (left whole : List ℕ) → IsTelling old now left whole → Begins old now whole
-tells_no_more old now left whole t = subst (Begins old now) t.text (begins_later old now now t.done left t.added (begins_none now left))
+pub tells_no_more : (old now : Option (List ℕ)) (left whole : List ℕ) → IsTelling old now left whole → WritesPrefix old now whole
+tells_no_more old now left whole t = subst (WritesPrefix old now) t.text (begins_later old now now t.done left t.added (begins_none now left))
 
 -- ---- the same text in other words
 pub appends_as : (old new : Option (List ℕ)) (text shown : List ℕ) → text ≡ shown → Appends old new text → Appends old new shown
 appends_as old new text shown e = subst (Appends old new) e
 
-pub begins_as : (old new : Option (List ℕ)) (text shown : List ℕ) → text ≡ shown → Begins old new text → Begins old new shown
-begins_as old new text shown e = subst (Begins old new) e
+pub begins_as : (old new : Option (List ℕ)) (text shown : List ℕ) → text ≡ shown → WritesPrefix old new text → WritesPrefix old new shown
+begins_as old new text shown e = subst (WritesPrefix old new) e
 
 -- ---- results
 pub on_err : {T E A : Type 0} (r : Result T E) → A → OnErr r A
@@ -58,5 +58,5 @@ on_err (Err e) a = a
 pub told_as : {T E : Type 0} (r : Result T E) (old new : Option (List ℕ)) (text shown : List ℕ) → text ≡ shown → OnOk r (Appends old new text) → OnOk r (Appends old new shown)
 told_as r old new text shown e = subst (λ (t : List ℕ). OnOk r (Appends old new t)) e
 
-pub begun_as : {T E : Type 0} (r : Result T E) (old new : Option (List ℕ)) (text shown : List ℕ) → text ≡ shown → OnErr r (Begins old new text) → OnErr r (Begins old new shown)
-begun_as r old new text shown e = subst (λ (t : List ℕ). OnErr r (Begins old new t)) e
+pub begun_as : {T E : Type 0} (r : Result T E) (old new : Option (List ℕ)) (text shown : List ℕ) → text ≡ shown → OnErr r (WritesPrefix old new text) → OnErr r (WritesPrefix old new shown)
+begun_as r old new text shown e = subst (λ (t : List ℕ). OnErr r (WritesPrefix old new t)) e

@@ -2,7 +2,7 @@
 use Rattle.std.proofs.Common.{◌++◌, ◌∙◌, ℕ, List, Option, [], None, Some, ap, refl, sym, append_assoc}
 use Rattle.std.specs.Io.KnownBytes.{Appends}
 use Rattle.std.proofs.lemmas.List.{append-nil}
-use Rattle.cue_device.specs.Texts.{Begins}
+use Rattle.cue_device.specs.Texts.{WritesPrefix}
 
 pub appends_none : (known : Option (List ℕ)) → Appends known known []
 appends_none None = tt
@@ -14,10 +14,10 @@ appends_then (Some xs) None w a b x y = absurd x
 appends_then (Some xs) (Some ys) None a b x y = y
 appends_then (Some xs) (Some ys) (Some zs) a b x y = y ∙ ap (λ (t : List ℕ). t ++ b) x ∙ append_assoc xs a b
 
-pub begins_none : (known : Option (List ℕ)) (text : List ℕ) → Begins known known text
+pub begins_none : (known : Option (List ℕ)) (text : List ℕ) → WritesPrefix known known text
 begins_none known text = record { front = []; back = text; whole = refl; added = appends_none known }
 
-pub begins_now : (u v : Option (List ℕ)) (a b : List ℕ) → Begins u v a → Begins u v (a ++ b)
+pub begins_now : (u v : Option (List ℕ)) (a b : List ℕ) → WritesPrefix u v a → WritesPrefix u v (a ++ b)
 begins_now u v a b begun = record {
   front = begun.front;
   back = begun.back ++ b;
@@ -25,7 +25,7 @@ begins_now u v a b begun = record {
   added = begun.added;
 }
 
-pub begins_later : (u v w : Option (List ℕ)) (a b : List ℕ) → Appends u v a → Begins v w b → Begins u w (a ++ b)
+pub begins_later : (u v w : Option (List ℕ)) (a b : List ℕ) → Appends u v a → WritesPrefix v w b → WritesPrefix u w (a ++ b)
 begins_later u v w a b added begun = record {
   front = a ++ begun.front;
   back = begun.back;

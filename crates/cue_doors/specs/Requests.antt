@@ -5,8 +5,8 @@ use Rattle.http.specs.declared.request.Request.{Request}
 use Rattle.http.specs.Request.{head_of}
 use Rattle.http_header.specs.HeaderMap.{get}
 use Rattle.cue_doors.specs.declared.doors.Doors.{Doors}
-use Rattle.cue_doors.specs.declared.doors.Bar.{Bar}
-use Rattle.cue_doors.specs.declared.doors.Bar.TheVariants.{OtherHost, OtherSite}
+use Rattle.cue_doors.specs.declared.doors.DoorRefusal.{DoorRefusal}
+use Rattle.cue_doors.specs.declared.doors.DoorRefusal.TheVariants.{OtherHost, OtherSite}
 use Rattle.cue_doors.specs.Hosts.{IsOwn, IsSameText}
 
 -- what the first field of this name has
@@ -41,6 +41,6 @@ IsForAnother doors request =
     (host : List ℕ) × (value_of (codes "host") request ≡ Some host) × (¬ IsOwn doors host)
 
 -- why a request is not let in
-abbrev pub IsBarred : Doors → Request (List ℕ) → Bar → Type 0
+abbrev pub IsBarred : Doors → Request (List ℕ) → DoorRefusal → Type 0
 IsBarred doors request OtherHost = IsForAnother doors request
 IsBarred doors request OtherSite = (¬ IsReading request) × IsForeign request

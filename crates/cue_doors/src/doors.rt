@@ -19,34 +19,34 @@ pub struct Doors {
 
 /// Why a request is not let in.
 #[derive(Clone, Copy, Debug, PartialEq, Eq)]
-pub enum Bar {
+pub enum DoorRefusal {
     /// It names a host that is not the site's.
     OtherHost,
     /// A browser sent it for a page of another site, and it is no read.
     OtherSite,
 }
 
-impl Bar {
+impl DoorRefusal {
     /// A line for the one who sent the request.
     pub fn line(self) -> &'static [u8] {
         match self {
-            Bar::OtherHost => b"this site does not answer for that host: see --host\n",
-            Bar::OtherSite => b"a web page of another site may not write here\n",
+            DoorRefusal::OtherHost => b"this site does not answer for that host: see --host\n",
+            DoorRefusal::OtherSite => b"a web page of another site may not write here\n",
         }
     }
 }
 
 impl Doors {
     /// Why a request is not let in, if it is not.
-    pub fn bar(&self, request: &Request<Bytes>) -> Option<Bar>
+    pub fn bar(&self, request: &Request<Bytes>) -> Option<DoorRefusal>
         ensures some { IfSome result (IsBarred self.now request.now) }
         ensures none { IfNone result ((bar : Bar) → ¬ IsBarred self.now request.now bar) }
     {
         if self.is_for_another(request) {
-            return Some(Bar::OtherHost);
+            return Some(DoorRefusal::OtherHost);
         }
         if !is_reading(request) && is_foreign(request) {
-            return Some(Bar::OtherSite);
+            return Some(DoorRefusal::OtherSite);
         }
         None
     }

@@ -55,12 +55,12 @@ impl<S: Settle> Settle for Guarded<S> {
 
 /// What peers bring, and what the loop asks, goes to the service behind.
 impl<S: Gathers> Gathers for Guarded<S> {
-    fn pulled(&mut self, bytes: &[u8]) -> bool {
-        self.inner.pulled(bytes)
+    fn pull_state(&mut self, bytes: &[u8]) -> bool {
+        self.inner.pull_state(bytes)
     }
 
-    fn pulled_pieces(&mut self, bytes: &[u8]) -> bool {
-        self.inner.pulled_pieces(bytes)
+    fn pull_pieces(&mut self, bytes: &[u8]) -> bool {
+        self.inner.pull_pieces(bytes)
     }
 
     fn patience(&self, request: &Request<Bytes>, response: &Response) -> Option<u64> {
@@ -79,8 +79,8 @@ impl<S: Gathers> Gathers for Guarded<S> {
         self.inner.fault()
     }
 
-    fn hear(&mut self, news: News) {
-        self.inner.hear(news);
+    fn note_news(&mut self, news: News) {
+        self.inner.note_news(news);
     }
 
     fn report<L: Log>(&mut self, log: &L) {

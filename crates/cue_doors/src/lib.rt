@@ -6,5 +6,5 @@ mod doors;
 mod fields;
 mod guarded;
 
-pub use crate::doors::{Bar, Doors};
+pub use crate::doors::{DoorRefusal, Doors};
 pub use crate::guarded::Guarded;

@@ -12,18 +12,18 @@ mod site;
 #[cfg(test)]
 mod tests;
 
-ghost use Rattle.cue_embed.specs.Calls.{IsNew, IsSubmitted, IsMerged, IsTold};
-ghost use Rattle.cue_answer.specs.declared.question.Question.TheVariants as questions;
+ghost use Rattle.cue_embed.specs.Calls.{IsNew, IsSubmitted, IsMergedState, AnswersState};
+ghost use Rattle.cue_answer.specs.declared.question.SiteQuestion.TheVariants as questions;
 
-use cue_answer::Question;
-pub use outcome::Outcome;
+use cue_answer::SiteQuestion;
+pub use outcome::CallOutcome;
 use outcome::outcome_of;
-use site::{merged, new_state, submitted, told};
+use site::{answer_state, merge_states, new_state, submit_text};
 use std::alloc::Global;
 
 /// Writes the state of a site that has accepted nothing.
 #[unsafe(no_mangle)]
-pub extern "C" fn cuestore_new(alloc: Global, out: &mut [u8]) -> Outcome
+pub extern "C" fn cuestore_new(alloc: Global, out: &mut [u8]) -> CallOutcome
     ensures { IsNew out.old out.new result }
 {
     outcome_of(new_state(alloc), out)
@@ -36,10 +36,10 @@ pub extern "C" fn cuestore_submit(
     bytes: &[u8],
     more: &[u8],
     out: &mut [u8],
-) -> Outcome
+) -> CallOutcome
     ensures { IsSubmitted bytes.now more.now out.old out.new result }
 {
-    outcome_of(submitted(alloc, bytes, more), out)
+    outcome_of(submit_text(alloc, bytes, more), out)
 }
 
 /// Writes the state of a site that has accepted all that both states have.
@@ -49,33 +49,33 @@ pub extern "C" fn cuestore_merge(
     bytes: &[u8],
     other: &[u8],
     out: &mut [u8],
-) -> Outcome
-    ensures { IsMerged bytes.now other.now out.old out.new result }
+) -> CallOutcome
+    ensures { IsMergedState bytes.now other.now out.old out.new result }
 {
-    outcome_of(merged(alloc, bytes, other), out)
+    outcome_of(merge_states(alloc, bytes, other), out)
 }
 
 /// Writes the JSON of the configuration; or, where there are any, the conflict lines; or else the
 /// lines of what is incomplete.
 #[unsafe(no_mangle)]
-pub extern "C" fn cuestore_export(alloc: Global, bytes: &[u8], out: &mut [u8]) -> Outcome
-    ensures { IsTold questions.Export bytes.now out.old out.new result }
+pub extern "C" fn cuestore_export(alloc: Global, bytes: &[u8], out: &mut [u8]) -> CallOutcome
+    ensures { AnswersState questions.Export bytes.now out.old out.new result }
 {
-    outcome_of(told(alloc, Question::Export, bytes), out)
+    outcome_of(answer_state(alloc, SiteQuestion::Export, bytes), out)
 }
 
 /// Writes the conflict lines, and then the lines of what is incomplete.
 #[unsafe(no_mangle)]
-pub extern "C" fn cuestore_report(alloc: Global, bytes: &[u8], out: &mut [u8]) -> Outcome
-    ensures { IsTold questions.Report bytes.now out.old out.new result }
+pub extern "C" fn cuestore_report(alloc: Global, bytes: &[u8], out: &mut [u8]) -> CallOutcome
+    ensures { AnswersState questions.Report bytes.now out.old out.new result }
 {
-    outcome_of(told(alloc, Question::Report, bytes), out)
+    outcome_of(answer_state(alloc, SiteQuestion::Report, bytes), out)
 }
 
 /// Writes all that is known, as one text.
 #[unsafe(no_mangle)]
-pub extern "C" fn cuestore_print(alloc: Global, bytes: &[u8], out: &mut [u8]) -> Outcome
-    ensures { IsTold questions.Print bytes.now out.old out.new result }
+pub extern "C" fn cuestore_print(alloc: Global, bytes: &[u8], out: &mut [u8]) -> CallOutcome
+    ensures { AnswersState questions.Print bytes.now out.old out.new result }
 {
-    outcome_of(told(alloc, Question::Print, bytes), out)
+    outcome_of(answer_state(alloc, SiteQuestion::Print, bytes), out)
 }

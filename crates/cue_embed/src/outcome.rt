@@ -1,5 +1,5 @@
 ghost use Rattle.std.specs.Prelude.{◌≡◌};
-ghost use Rattle.cue_embed.specs.Outcomes.{refused, IsGiven, IsOutcomeOf};
+ghost use Rattle.cue_embed.specs.Outcomes.{outcome_of_error, IsGiven, IsOutcomeOf};
 
 use cue_answer::Answer;
 use cue_replica::{Memory, Refusal};
@@ -13,7 +13,7 @@ const REFUSED: u8 = 1;
 /// What a call came to.
 #[repr(C)]
 #[derive(Clone, Copy)]
-pub struct Outcome {
+pub struct CallOutcome {
     /// How many bytes the answer has, also where it had no room; 0 where there is none.
     pub length: usize,
     /// The byte of the input at which it is refused; 0 where none is.
@@ -30,18 +30,18 @@ pub struct Outcome {
 /// Why a call has no answer: the refusal, and the number of the input that is refused, from 1, or 0
 /// where memory ran out for the answer.
 #[derive(Clone, Copy)]
-pub struct Stop {
+pub struct CallError {
     pub why: Refusal,
     pub input: u8,
 }
 
-impl From<Memory> for Stop {
-    ghost use Rattle.cue_embed.specs.Stops.{IsMemory};
+impl From<Memory> for CallError {
+    ghost use Rattle.cue_embed.specs.Stops.{IsMemoryError};
 
-    ghost from_gives = { λ _ stop. IsMemory stop };
+    ghost from_gives = { λ _ stop. IsMemoryError stop };
 
-    fn from(memory: Memory) -> Stop {
-        Stop {
+    fn from(memory: Memory) -> CallError {
+        CallError {
             why: Refusal::from(memory),
             input: 0,
         }
@@ -49,12 +49,12 @@ impl From<Memory> for Stop {
 }
 
 /// Writes an answer to the front of `out`, where there is room for it.
-fn give(bytes: &[u8], status: u8, out: &mut [u8]) -> Outcome
+fn give(bytes: &[u8], status: u8, out: &mut [u8]) -> CallOutcome
     ensures { IsGiven bytes.now status out.old out.new result }
 {
     let length = bytes.len();
     if length > out.len() {
-        return Outcome {
+        return CallOutcome {
             length,
             place: 0,
             status: NO_ROOM,
@@ -63,7 +63,7 @@ fn give(bytes: &[u8], status: u8, out: &mut [u8]) -> Outcome
         };
     }
     out[..length].copy_from_slice(bytes);
-    Outcome {
+    CallOutcome {
         length,
         place: 0,
         status,
@@ -73,10 +73,10 @@ fn give(bytes: &[u8], status: u8, out: &mut [u8]) -> Outcome
 }
 
 /// The outcome of a call that has no answer.
-fn refuse(stop: Stop) -> Outcome
-    ensures { result ≡ refused stop }
+fn refuse(stop: CallError) -> CallOutcome
+    ensures { result ≡ outcome_of_error stop }
 {
-    Outcome {
+    CallOutcome {
         length: 0,
         place: stop.why.place,
         status: REFUSED,
@@ -86,7 +86,7 @@ fn refuse(stop: Stop) -> Outcome
 }
 
 /// Writes the answer of a call, where it has one, and tells what the call came to.
-pub fn outcome_of(answer: Result<Answer, Stop>, out: &mut [u8]) -> Outcome
+pub fn outcome_of(answer: Result<Answer, CallError>, out: &mut [u8]) -> CallOutcome
     ensures { IsOutcomeOf answer out.old out.new result }
 {
     match answer {

@@ -1,7 +1,7 @@
 //! Each call once, where memory is there.
 
 use super::{
-    Outcome, cuestore_export, cuestore_merge, cuestore_new, cuestore_print, cuestore_report,
+    CallOutcome, cuestore_export, cuestore_merge, cuestore_new, cuestore_print, cuestore_report,
     cuestore_submit,
 };
 
@@ -22,7 +22,7 @@ const ONE: &[u8] = &[
 ];
 
 /// Whether a call answered just these bytes, at the front of `out`, with this status.
-fn gave(outcome: Outcome, out: &[u8], bytes: &[u8], status: u8) -> bool {
+fn has_given(outcome: CallOutcome, out: &[u8], bytes: &[u8], status: u8) -> bool {
     outcome.length == bytes.len() && outcome.status == status && out.starts_with(bytes)
 }
 
@@ -30,30 +30,30 @@ fn gave(outcome: Outcome, out: &[u8], bytes: &[u8], status: u8) -> bool {
 fn states_are_written(rt: HostRuntime) {
     let mut out = [0u8; 100];
     let outcome = cuestore_new(rt.alloc(), &mut out);
-    assert!(rt; gave(outcome, &out, FREE, 0));
+    assert!(rt; has_given(outcome, &out, FREE, 0));
     let outcome = cuestore_submit(rt.alloc(), FREE, b"a: 1\n", &mut out);
-    assert!(rt; gave(outcome, &out, ONE, 0));
+    assert!(rt; has_given(outcome, &out, ONE, 0));
 }
 
 #[test]
 fn two_states_are_one(rt: HostRuntime) {
     let mut out = [0u8; 100];
     let outcome = cuestore_merge(rt.alloc(), FREE, ONE, &mut out);
-    assert!(rt; gave(outcome, &out, ONE, 0));
+    assert!(rt; has_given(outcome, &out, ONE, 0));
 }
 
 #[test]
 fn a_state_is_exported_and_printed(rt: HostRuntime) {
     let mut out = [0u8; 100];
     let outcome = cuestore_export(rt.alloc(), ONE, &mut out);
-    assert!(rt; gave(outcome, &out, b"{\"a\":1}", 0));
+    assert!(rt; has_given(outcome, &out, b"{\"a\":1}", 0));
     let outcome = cuestore_print(rt.alloc(), ONE, &mut out);
-    assert!(rt; gave(outcome, &out, b"\"a\": 1\n", 0));
+    assert!(rt; has_given(outcome, &out, b"\"a\": 1\n", 0));
 }
 
 #[test]
 fn what_a_state_lacks_is_reported(rt: HostRuntime) {
     let mut out = [0u8; 100];
     let outcome = cuestore_report(rt.alloc(), FREE, &mut out);
-    assert!(rt; gave(outcome, &out, b"incomplete . not a single value\n", 3));
+    assert!(rt; has_given(outcome, &out, b"incomplete . not a single value\n", 3));
 }

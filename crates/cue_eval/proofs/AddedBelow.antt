@@ -4,61 +4,61 @@ use Rattle.std.proofs.lemmas.Bool.{cases_lt}
 use Rattle.cue_lattice.specs.Path as paths
 use Rattle.cue_lattice.specs.Path.{Path, label, index}
 use Rattle.cue_row.specs.Questions.{question_of}
-use Rattle.cue_row.specs.Row.{Refuses}
+use Rattle.cue_row.specs.Row.{RefusesAsked}
 use Rattle.cue_row.specs.declared.question.Question as program
 use Rattle.cue_row.specs.declared.parts.RowParts.{RowParts as Row}
 use Rattle.cue_row.specs.declared.step.Step.{Step}
-use Rattle.cue_table.specs.Many.{IsOfBranches, IsOfElements, element_of}
+use Rattle.cue_table.specs.Many.{IsOfBranches, IsOfElements, element_given}
 use Rattle.cue_table.specs.Meet.{IsMet}
 use Rattle.cue_table.specs.Refuses.{TableRefuses}
 use Rattle.cue_table.specs.Tree.{Tree, empty}
 use Rattle.cue_table.proofs.Stretches.{element_before, element_from}
-use Rattle.cue_eval.specs.Inner.Adding.{AddsAt, AreFields, AreStretches, IsAllBelow}
-use Rattle.cue_eval.specs.declared.left_out.Place.{Place}
+use Rattle.cue_eval.specs.Inner.Adding.{ClosingAddsAt, AreFields, AreStretches, IsAllBelow}
+use Rattle.cue_eval.specs.declared.left_out.ClosingPlace.{ClosingPlace}
 use Rattle.cue_eval.proofs.LabelTables.{adds_branch}
 
-pub empty_refuses : (path : Path) (question : program.Question) → ¬ TableRefuses Refuses (empty {R = Row}) path question
+pub empty_refuses : (path : Path) (question : program.Question) → ¬ TableRefuses RefusesAsked (empty {R = Row}) path question
 empty_refuses [] question h = h
 empty_refuses (step ∷ path) question h = h
 
 -- the same table refuses the same
-as_table : (a b : Tree Row) → a ≡ b → (path : Path) (question : program.Question) (n : Type 0) → (TableRefuses Refuses b path question ↔ n) → TableRefuses Refuses a path question ↔ n
+as_table : (a b : Tree Row) → a ≡ b → (path : Path) (question : program.Question) (n : Type 0) → (TableRefuses RefusesAsked b path question ↔ n) → TableRefuses RefusesAsked a path question ↔ n
 as_table a b e path question n h =
-    (λ r. h.0 (subst (λ t. TableRefuses Refuses t path question) e r), λ x. subst (λ t. TableRefuses Refuses t path question) (sym e) (h.1 x))
+    (λ r. h.0 (subst (λ t. TableRefuses RefusesAsked t path question) e r), λ x. subst (λ t. TableRefuses RefusesAsked t path question) (sym e) (h.1 x))
 
 -- what closing adds in elements is that of this table
-abbrev pub AreAlike : Place → Tree Row → ℕ → Path → program.Question → Type 0
-AreAlike place sets i path question = TableRefuses Refuses sets path question ↔ AddsAt place (index i ∷ path) (question_of question)
+abbrev pub AreAlike : ClosingPlace → Tree Row → ℕ → Path → program.Question → Type 0
+AreAlike place sets i path question = TableRefuses RefusesAsked sets path question ↔ ClosingAddsAt place (index i ∷ path) (question_of question)
 
 -- the last stretch is given first
-pub last_stretch : (place : Place) (last : ℕ) (sets : Tree Row) (given : List (ℕ × Tree Row)) → given ≡ (last, sets) ∷ [] → ((i : ℕ) (path : Path) (question : program.Question) → last ≤ i → AreAlike place sets i path question) → AreStretches place last given
+pub last_stretch : (place : ClosingPlace) (last : ℕ) (sets : Tree Row) (given : List (ℕ × Tree Row)) → given ≡ (last, sets) ∷ [] → ((i : ℕ) (path : Path) (question : program.Question) → last ≤ i → AreAlike place sets i path question) → AreStretches place last given
 last_stretch place last sets given e says = subst (AreStretches place last) (sym e) (record {
-  reached = λ i more path question far. as_table (element_of i ((last, sets) ∷ more)) sets (element_from i last sets more far) path question (AddsAt place (index i ∷ path) (question_of question)) (says i path question far);
+  reached = λ i more path question far. as_table (element_given i ((last, sets) ∷ more)) sets (element_from i last sets more far) path question (ClosingAddsAt place (index i ∷ path) (question_of question)) (says i path question far);
   others = λ i more low. element_before i last sets more low;
 })
 
 -- and then those before it
-pub next_stretch : (place : Place) (from first : ℕ) (sets : Tree Row) (old new : List (ℕ × Tree Row)) → new ≡ old ++ (first, sets) ∷ [] → first < from → AreStretches place from old
+pub next_stretch : (place : ClosingPlace) (from first : ℕ) (sets : Tree Row) (old new : List (ℕ × Tree Row)) → new ≡ old ++ (first, sets) ∷ [] → first < from → AreStretches place from old
     → ((i : ℕ) (path : Path) (question : program.Question) → first ≤ i → i < from → AreAlike place sets i path question) → AreStretches place first new
 next_stretch place from first sets old new e low are says = record {
-  reached = λ i more path question far. as_table (element_of i (new ++ more)) (element_of i (old ++ (first, sets) ∷ more)) (same i more) path question (AddsAt place (index i ∷ path) (question_of question))
+  reached = λ i more path question far. as_table (element_given i (new ++ more)) (element_given i (old ++ (first, sets) ∷ more)) (same i more) path question (ClosingAddsAt place (index i ∷ path) (question_of question))
       (elim (cases_lt i from) [
-        | inl before ↦ as_table (element_of i (old ++ (first, sets) ∷ more)) sets (are.others i ((first, sets) ∷ more) before ∙ element_from i first sets more far) path question (AddsAt place (index i ∷ path) (question_of question)) (says i path question far before)
+        | inl before ↦ as_table (element_given i (old ++ (first, sets) ∷ more)) sets (are.others i ((first, sets) ∷ more) before ∙ element_from i first sets more far) path question (ClosingAddsAt place (index i ∷ path) (question_of question)) (says i path question far before)
         | inr high ↦ are.reached i ((first, sets) ∷ more) path question high
       ]);
   others = λ i more before. same i more ∙ are.others i ((first, sets) ∷ more) (omega (arith, before, low)) ∙ element_before i first sets more before;
 } where
-  same : (i : ℕ) (more : List (ℕ × Tree Row)) → element_of i (new ++ more) ≡ element_of i (old ++ (first, sets) ∷ more)
-  same i more = ap (λ xs. element_of i (xs ++ more)) e ∙ ap (element_of i) (append_assoc old ((first, sets) ∷ []) more)
+  same : (i : ℕ) (more : List (ℕ × Tree Row)) → element_given i (new ++ more) ≡ element_given i (old ++ (first, sets) ∷ more)
+  same i more = ap (λ xs. element_given i (xs ++ more)) e ∙ ap (element_given i) (append_assoc old ((first, sets) ∷ []) more)
 
 -- the fields and all stretches together
-pub all_below : (place : Place) (fields : List (Step × Tree Row)) (given : List (ℕ × Tree Row)) (branches list all : Tree Row) → AreFields place fields → AreStretches place 0 given → IsOfBranches Refuses fields branches → IsOfElements Refuses given list
-    → IsMet Refuses branches list all → IsAllBelow place all
+pub all_below : (place : ClosingPlace) (fields : List (Step × Tree Row)) (given : List (ℕ × Tree Row)) (branches list all : Tree Row) → AreFields place fields → AreStretches place 0 given → IsOfBranches RefusesAsked fields branches → IsOfElements RefusesAsked given list
+    → IsMet RefusesAsked branches list all → IsAllBelow place all
 all_below place fields given branches list all are stretches of elements met = record {
   root = λ question h. ⊎_elim (of.root question) (elements.root question) ((met [] question).0 h);
   below = at;
 } where
-  at : (step : paths.Step) (path : Path) (question : program.Question) → TableRefuses Refuses all (step ∷ path) question ↔ AddsAt place (step ∷ path) (question_of question)
+  at : (step : paths.Step) (path : Path) (question : program.Question) → TableRefuses RefusesAsked all (step ∷ path) question ↔ ClosingAddsAt place (step ∷ path) (question_of question)
   at (label text) path question =
       let both = met (label text ∷ path) question in
       let hung = of.below (label text) path question in
@@ -71,7 +71,7 @@ all_below place fields given branches list all are stretches of elements met = r
       let hung = of.below (index i) path question in
       let added = are.2.refused (index i) path question in
       let one = elements.elements i path question in
-      let here = as_table (element_of i given) (element_of i (given ++ [])) (ap (element_of i) (sym (append-nil given))) path question (AddsAt place (index i ∷ path) (question_of question)) (stretches.reached i [] path question (omega arith)) in (
+      let here = as_table (element_given i given) (element_given i (given ++ [])) (ap (element_given i) (sym (append-nil given))) path question (ClosingAddsAt place (index i ∷ path) (question_of question)) (stretches.reached i [] path question (omega arith)) in (
         λ h. ⊎_elim (λ g. absurd (are.1.labels i (added.0 (hung.0 g)).0)) (λ g. here.0 (one.0 g)) (both.0 h),
         λ h. both.1 (inr (one.1 (here.1 h))),
       )

@@ -8,7 +8,7 @@ use Rattle.std.proofs.lemmas.Slice.Eq.{bytes_eq-Decides}
 use Rattle.cue_lattice.specs.Path.{Path, label, index}
 use Rattle.cue_lattice.specs.Question.{allows}
 use Rattle.cue_scope.specs.Core.{Core, conjunction, struct, close, list, closed, Cores, no_cores, core, Members, no_members, member, dots, Elements, ends, goes_on, each, element}
-use Rattle.cue_eval.specs.Literals.{literals, declares, has_dots, LeaveOut}
+use Rattle.cue_eval.specs.Literals.{literals, has_declaration, has_dots, LeaveOut}
 use Rattle.cue_eval.specs.Refuses.{Refuses, PartsRefuse, FieldRefuses, ElementRefuses}
 use Rattle.cue_eval.specs.Closing.{OneOfUsed, OneOfParts, OneOfFields, OneOfElements, any_literal, LeaveOutOwn, UsedAreClosed, IsClosedByOwn}
 use Rattle.cue_eval.proofs.Own.{own_or_used, does_more}
@@ -29,18 +29,18 @@ longer_differs k l h = by (bytes_eq k l) refl where
   by false e = refl
   by true e = let same = ap length ((bytes_eq-Decides k l).0 e) in absurd (omega (arith, h, same))
 
-longer_undeclared : (l : List ℕ) (ms : Members) → longest ms < length l → declares l ms ≡ false
+longer_undeclared : (l : List ℕ) (ms : Members) → longest ms < length l → has_declaration l ms ≡ false
 unfolding longest
 longer_undeclared l no_members h = refl
 longer_undeclared l (dots ms) h = longer_undeclared l ms h
 longer_undeclared l (member k mark c ms) h = rw (longer_differs k l (omega (arith, h))) (longer_undeclared l ms (omega (arith, h)))
 
-pub longer_undeclared_by_all : (l : List ℕ) (all : List Members) → longest_of all < length l → list_any (declares l) all ≡ false
+pub longer_undeclared_by_all : (l : List ℕ) (all : List Members) → longest_of all < length l → list_any (has_declaration l) all ≡ false
 unfolding longest_of
 longer_undeclared_by_all l [] h = refl
 longer_undeclared_by_all l (ms ∷ all) h = rw (longer_undeclared l ms (omega (arith, h))) (longer_undeclared_by_all l all (omega (arith, h)))
 
-undeclared : (all : List Members) → (k : List ℕ) × (list_any (declares k) all ≡ false)
+undeclared : (all : List Members) → (k : List ℕ) × (list_any (has_declaration k) all ≡ false)
 undeclared all =
     let n : ℕ = longest_of all + 1 in
     (replicate n 0, longer_undeclared_by_all (replicate n 0) all (rw length-replicate (omega arith)))
@@ -142,12 +142,12 @@ closed_by_own c path l all = (to, from) where
         some = ⊎_elim (λ o. o) (λ u. absurd (none_used used_dotless u)) ((own_or_used any_literal c path).0 (some_any (literals c path) out.some));
         without_dots = λ o. dotless ((own_or_used has_dots c path).1 (inl o));
         used_without_dots = used_dotless;
-        undeclared = λ o. false≢true (sym out.undeclared ∙ (own_or_used (declares l) c path).1 (inl o));
+        undeclared = λ o. false≢true (sym out.undeclared ∙ (own_or_used (has_declaration l) c path).1 (inl o));
       }
 
   from : LeaveOutOwn c path l → LeaveOut (literals c path) l
   from out = record {
     some = any_some (literals c path) ((own_or_used any_literal c path).1 (inl out.some));
     without_dots = not_true (list_any has_dots (literals c path)) (λ e. ⊎_elim out.without_dots out.used_without_dots ((own_or_used has_dots c path).0 e));
-    undeclared = not_true (list_any (declares l) (literals c path)) (λ e. ⊎_elim out.undeclared (λ u. none_used out.used_without_dots (any_used (declares l) c path u)) ((own_or_used (declares l) c path).0 e));
+    undeclared = not_true (list_any (has_declaration l) (literals c path)) (λ e. ⊎_elim out.undeclared (λ u. none_used out.used_without_dots (any_used (has_declaration l) c path u)) ((own_or_used (has_declaration l) c path).0 e));
   }

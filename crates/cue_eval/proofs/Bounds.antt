@@ -10,18 +10,18 @@ use Rattle.std.proofs.lemmas.List.Sorted.{All-permutation, IsPermutation-sym, Co
 use Rattle.cue_lattice.specs.Path.{Path, index}
 use Rattle.cue_lattice.specs.Question.{Question}
 use Rattle.cue_row.specs.Questions.{question_of}
-use Rattle.cue_row.specs.Row.{Refuses}
+use Rattle.cue_row.specs.Row.{RefusesAsked}
 use Rattle.cue_row.specs.declared.question.Question as program
 use Rattle.cue_row.specs.declared.parts.RowParts.{RowParts as Row}
-use Rattle.cue_table.specs.Form.{IsTree, AreWithin}
+use Rattle.cue_table.specs.Form.{IsTree, AreWithinDepth}
 use Rattle.cue_table.specs.Refuses.{TableRefuses}
-use Rattle.cue_table.specs.Spans.{Span, field, elements, alike, spanned, spread}
+use Rattle.cue_table.specs.Spans.{Span, field, elements, alike_elements, branches_of_span, branches_of_spans}
 use Rattle.cue_table.specs.Tree.{Tree, node, Children, none, child, no_rest, onward, below, behind_last, find, find_with, step_into, fixed_of}
 use Rattle.cue_table.proofs.Branches.{find_before, find_rest, find_fixed}
 use Rattle.cue_table.proofs.Exact.{within_last}
 use Rattle.cue_table.proofs.Joined.{alike_find, alike_past, less_number}
-use Rattle.cue_eval.specs.Inner.Adding.{AddsAt, AreStretches, row_below, NoneBetween, AreBounds, AreBoundsOf, AreBoundsBelow, AreFew, AreKept, HasBoundsOf, IsSpanWithin}
-use Rattle.cue_eval.specs.declared.left_out.Place.{Place}
+use Rattle.cue_eval.specs.Inner.Adding.{ClosingAddsAt, AreStretches, row_below, NoneBetween, AreBounds, AreBoundsOf, AreBoundsBelow, AreFew, AreKept, HasBoundsOf, IsSpanWithin}
+use Rattle.cue_eval.specs.declared.left_out.ClosingPlace.{ClosingPlace}
 use Rattle.cue_eval.proofs.AddedBelow.{last_stretch, next_stretch}
 use Rattle.cue_eval.proofs.LabelTables.{adds_further, adds_nowhere, same_adds}
 
@@ -56,17 +56,17 @@ popped_few bound old left all moved =
 
 -- ---- where the elements of a tree stand
 module _ {R : Type 0} where
-  alike_ends : (n i m : ℕ) (tree : Tree R) (others : Children R) → AreWithin n (alike i m tree others) → (i + m < n) × AreWithin n others
+  alike_ends : (n i m : ℕ) (tree : Tree R) (others : Children R) → AreWithinDepth n (alike_elements i m tree others) → (i + m < n) × AreWithinDepth n others
   alike_ends n i zero tree others h = (omega (arith, h.0), h.1)
   alike_ends n i (suc m) tree others h = let more = alike_ends n (suc i) m tree others h.1 in (omega (arith, more.0), more.1)
 
   -- a span and what is behind it stand where both do
-  pub span_within : (n : ℕ) (span : Span) (tree : Tree R) (left : Children R) → AreWithin n (spanned span tree left) → IsSpanWithin n span × AreWithin n left
+  pub span_within : (n : ℕ) (span : Span) (tree : Tree R) (left : Children R) → AreWithinDepth n (branches_of_span span tree left) → IsSpanWithin n span × AreWithinDepth n left
   span_within n (field text) tree left h = (tt, h)
   span_within n (elements i more) tree left h = alike_ends n i more tree left h
 
   -- the elements of a tree in form stand before those that are all alike
-  pub own_within : (P : R → Type 0) (tree : Tree R) → IsTree P tree → AreWithin (fixed_of tree) (below tree)
+  pub own_within : (P : R → Type 0) (tree : Tree R) → IsTree P tree → AreWithinDepth (fixed_of tree) (below tree)
   own_within P (node row children no_rest) h = within_last (behind_last children) children (omega arith)
   own_within P (node row children (onward n tree)) h = h.2.0
 
@@ -79,13 +79,13 @@ module _ {R : Type 0} where
   lower : (f i : ℕ) (tree : Tree R) (others : Children R) → i < f → find (index i) (child (index f) tree others) ≡ find (index i) others
   lower f i tree others low = find_before (index i) (index f) tree others (less_number i f low)
 
-  alike_before : (f m i : ℕ) (tree : Tree R) (others : Children R) → i < f → find (index i) (alike f m tree others) ≡ find (index i) others
+  alike_before : (f m i : ℕ) (tree : Tree R) (others : Children R) → i < f → find (index i) (alike_elements f m tree others) ≡ find (index i) others
   alike_before f zero i tree others low = lower f i tree others low
-  alike_before f (suc m) i tree others low = lower f i tree (alike (suc f) m tree others) low ∙ alike_before (suc f) m i tree others (omega (arith, low))
+  alike_before f (suc m) i tree others low = lower f i tree (alike_elements (suc f) m tree others) low ∙ alike_before (suc f) m i tree others (omega (arith, low))
 
   -- in a span, or beside it
   pub alike_same : (f m i j : ℕ) (tree : Tree R) (others : Children R) → i ≤ j → (f ≤ i) ⊎ (j < f) → (f + m + 1 ≤ i) ⊎ (j < f + m + 1) → find (index i) others ≡ find (index j) others
-      → find (index i) (alike f m tree others) ≡ find (index j) (alike f m tree others)
+      → find (index i) (alike_elements f m tree others) ≡ find (index j) (alike_elements f m tree others)
   alike_same f m i j tree others le (inr low) end same =
       alike_before f m i tree others (omega (arith, le, low)) ∙ same ∙ sym (alike_before f m j tree others low)
   alike_same f m i j tree others le (inl high) (inl past) same =
@@ -107,15 +107,15 @@ module _ {R : Type 0} where
   abbrev pub AreLeft : Children R → Children R → List ℕ → Type 0
   AreLeft all left bounds = (i j : ℕ) → i ≤ j → NoneBetween i j bounds → find (index i) left ≡ find (index j) left → find (index i) all ≡ find (index j) all
 
-  pub left_all : (all : Children R) (left : List (Span × Tree R)) (bounds : List ℕ) → spread left ≡ all → AreLeft all (spread left) bounds
+  pub left_all : (all : Children R) (left : List (Span × Tree R)) (bounds : List ℕ) → branches_of_spans left ≡ all → AreLeft all (branches_of_spans left) bounds
   left_all all left bounds is i j le apart same = subst (λ cs. find (index i) cs ≡ find (index j) cs) is same
 
-  left_elements : (all : Children R) (f m : ℕ) (tree : Tree R) (left : Children R) (old new : List ℕ) → AreLeft all (alike f m tree left) old → AreKept old new → Contains new f → Contains new (f + m + 1) → AreLeft all left new
+  left_elements : (all : Children R) (f m : ℕ) (tree : Tree R) (left : Children R) (old new : List ℕ) → AreLeft all (alike_elements f m tree left) old → AreKept old new → Contains new f → Contains new (f + m + 1) → AreLeft all left new
   left_elements all f m tree left old new are kept first last i j le apart same =
       are i j le (all_kept (λ bound. (bound ≤ i) ⊎ (j < bound)) old new kept apart)
       (alike_same f m i j tree left le (All-contains (λ bound. (bound ≤ i) ⊎ (j < bound)) new f apart first) (All-contains (λ bound. (bound ≤ i) ⊎ (j < bound)) new (f + m + 1) apart last) same)
 
-  pub left_span : (all : Children R) (span : Span) (tree : Tree R) (left : Children R) (old new : List ℕ) → AreLeft all (spanned span tree left) old → AreKept old new → HasBoundsOf span new → AreLeft all left new
+  pub left_span : (all : Children R) (span : Span) (tree : Tree R) (left : Children R) (old new : List ℕ) → AreLeft all (branches_of_span span tree left) old → AreKept old new → HasBoundsOf span new → AreLeft all left new
   left_span all (field text) tree left old new are kept there i j le apart same = are i j le (all_kept (λ bound. (bound ≤ i) ⊎ (j < bound)) old new kept apart) same
   left_span all (elements f m) tree left old new are kept there i j le apart same = left_elements all f m tree left old new are kept there.0 there.1 i j le apart same
 
@@ -124,14 +124,14 @@ module _ {R : Type 0} where
       into_same tree i j le (All-contains (λ bound. (bound ≤ i) ⊎ (j < bound)) new (fixed_of tree) apart last) (are i j le (all_kept (λ bound. (bound ≤ i) ⊎ (j < bound)) old new kept apart) refl)
 
 -- ---- what closing adds between bounds
-pub bounded : (place : Place) (bounds : List ℕ) → AreBoundsBelow (Some place.own) bounds → AreBoundsBelow place.dots bounds → AreBoundsBelow place.rows bounds → AreBounds place bounds
+pub bounded : (place : ClosingPlace) (bounds : List ℕ) → AreBoundsBelow (Some place.own) bounds → AreBoundsBelow place.dots bounds → AreBoundsBelow place.rows bounds → AreBounds place bounds
 bounded place bounds own dots rows i j le apart path question =
     let one = adds_further place (index i) path question in
     let other = adds_further place (index j) path question in
     let same = same_adds _ _ _ _ _ _ (ap (λ t. row_below t path) (own i j le apart)) (ap (λ t. row_below t path) (dots i j le apart)) (ap (λ t. row_below t path) (rows i j le apart)) question in
     (λ h. other.1 (same.0 (one.0 h)), λ h. one.1 (same.1 (other.0 h)))
 
-pub nowhere_bounded : (place : Place) (bounds : List ℕ) → ((i : ℕ) → step_into place.own (index i) ≡ None) → AreBounds place bounds
+pub nowhere_bounded : (place : ClosingPlace) (bounds : List ℕ) → ((i : ℕ) → step_into place.own (index i) ≡ None) → AreBounds place bounds
 nowhere_bounded place bounds free i j le apart path question =
     (λ h. absurd (adds_nowhere place (index i) (free i) path question h), λ h. absurd (adds_nowhere place (index j) (free j) path question h))
 
@@ -139,10 +139,10 @@ pub kept_below : {R : Type 0} (branch : Option (Tree R)) (old new : List ℕ) �
 kept_below branch old new kept are i j le apart = are i j le (all_kept (λ bound. (bound ≤ i) ⊎ (j < bound)) old new kept apart)
 
 -- ---- the way from bound to bound, the greatest first
-pub record IsUnderway (place : Place) (from : ℕ) (given : List (ℕ × Tree Row)) (bounds : List ℕ) : Type 0 where
+pub record IsUnderway (place : ClosingPlace) (from : ℕ) (given : List (ℕ × Tree Row)) (bounds : List ℕ) : Type 0 where
   pub stretches : AreStretches place from given
   pub alike : (i j : ℕ) → i ≤ j → j < from → NoneBetween i j bounds → (path : Path) (question : Question)
-      → AddsAt place (index i ∷ path) question ↔ AddsAt place (index j ∷ path) question
+      → ClosingAddsAt place (index i ∷ path) question ↔ ClosingAddsAt place (index j ∷ path) question
   pub end : All (λ bound. 0 < bound) bounds → from ≡ 0
 
 -- the greatest bound is below none of the others
@@ -155,8 +155,8 @@ back : (P : ℕ → Type 0) (all left : List ℕ) (x : ℕ) → IsPermutation al
 back P all left x moved here others = All-permutation P (x ∷ left) all (IsPermutation-sym all (x ∷ left) moved) (All-cons P x left here others)
 
 -- from the greatest bound on all elements are alike
-pub underway : (place : Place) (given : List (ℕ × Tree Row)) (sets : Tree Row) (all left : List ℕ) (last : ℕ) → given ≡ (last, sets) ∷ []
-    → ((path : Path) (question : program.Question) → TableRefuses Refuses sets path question ↔ AddsAt place (index last ∷ path) (question_of question))
+pub underway : (place : ClosingPlace) (given : List (ℕ × Tree Row)) (sets : Tree Row) (all left : List ℕ) (last : ℕ) → given ≡ (last, sets) ∷ []
+    → ((path : Path) (question : program.Question) → TableRefuses RefusesAsked sets path question ↔ ClosingAddsAt place (index last ∷ path) (question_of question))
     → AreBounds place all → Contains all 0 → IsPermutation all (last ∷ left) → IsUpperBound nat_cmp last left → IsUnderway place last given left
 underway place given sets all left last e says bounds there moved greatest = record {
   stretches = last_stretch place last sets given e (λ i path question far.
@@ -168,12 +168,12 @@ underway place given sets all left last e says bounds there moved greatest = rec
     | inr least ↦ omega (arith, least)
   ];
 } where
-  last_alike : (i : ℕ) → last ≤ i → (path : Path) (question : Question) → AddsAt place (index last ∷ path) question ↔ AddsAt place (index i ∷ path) question
+  last_alike : (i : ℕ) → last ≤ i → (path : Path) (question : Question) → ClosingAddsAt place (index last ∷ path) question ↔ ClosingAddsAt place (index i ∷ path) question
   last_alike i far = bounds last i far (back (λ bound. (bound ≤ last) ⊎ (i < bound)) all left last moved (inl (omega arith)) (All-weaker (λ y. y ≤ last) (λ bound. (bound ≤ last) ⊎ (i < bound)) (λ y h. inl h) left (below_greatest last left greatest)))
 
 -- a stretch up to the last one: in all its elements the same is added
-pub underway_on : (place : Place) (from first : ℕ) (old new : List (ℕ × Tree Row)) (sets : Tree Row) (all left : List ℕ) → IsUnderway place from old all → IsPermutation all (first ∷ left) → IsUpperBound nat_cmp first left → first < from
-    → ((path : Path) (question : program.Question) → TableRefuses Refuses sets path question ↔ AddsAt place (index first ∷ path) (question_of question))
+pub underway_on : (place : ClosingPlace) (from first : ℕ) (old new : List (ℕ × Tree Row)) (sets : Tree Row) (all left : List ℕ) → IsUnderway place from old all → IsPermutation all (first ∷ left) → IsUpperBound nat_cmp first left → first < from
+    → ((path : Path) (question : program.Question) → TableRefuses RefusesAsked sets path question ↔ ClosingAddsAt place (index first ∷ path) (question_of question))
     → new ≡ old ++ (first, sets) ∷ [] → IsUnderway place first new left
 underway_on place from first old new sets all left is moved greatest low says e = record {
   stretches = next_stretch place from first sets old new e low is.stretches (λ i path question high before.
@@ -185,12 +185,12 @@ underway_on place from first old new sets all left is moved greatest low says e 
     | inr least ↦ omega (arith, least)
   ];
 } where
-  first_alike : (i : ℕ) → first ≤ i → i < from → (path : Path) (question : Question) → AddsAt place (index first ∷ path) question ↔ AddsAt place (index i ∷ path) question
+  first_alike : (i : ℕ) → first ≤ i → i < from → (path : Path) (question : Question) → ClosingAddsAt place (index first ∷ path) question ↔ ClosingAddsAt place (index i ∷ path) question
   first_alike i high before = is.alike first i high before
       (back (λ bound. (bound ≤ first) ⊎ (i < bound)) all left first moved (inl (omega arith)) (All-weaker (λ y. y ≤ first) (λ bound. (bound ≤ first) ⊎ (i < bound)) (λ y h. inl h) left (below_greatest first left greatest)))
 
 -- a bound that is told twice
-pub underway_again : (place : Place) (from first : ℕ) (given : List (ℕ × Tree Row)) (all left : List ℕ) → IsUnderway place from given all → IsPermutation all (first ∷ left) → from ≤ first → IsUnderway place from given left
+pub underway_again : (place : ClosingPlace) (from first : ℕ) (given : List (ℕ × Tree Row)) (all left : List ℕ) → IsUnderway place from given all → IsPermutation all (first ∷ left) → from ≤ first → IsUnderway place from given left
 underway_again place from first given all left is moved far = record {
   stretches = is.stretches;
   alike = λ i j le before apart. is.alike i j le before (back (λ bound. (bound ≤ i) ⊎ (j < bound)) all left first moved (inr (omega (arith, before, far))) apart);

@@ -9,11 +9,11 @@ use Rattle.cue_lattice.specs.Question as questions
 use Rattle.cue_lattice.specs.Question.{Question, may_be, usual, allows}
 use Rattle.cue_lattice.specs.declared.scalar.Scalar.{Scalar}
 use Rattle.cue_lattice.specs.Scalar.{IsScalar}
-use Rattle.cue_scalars.specs.Pairs.{Scalars, Pair, brought, all_of}
+use Rattle.cue_scalars.specs.Pairs.{ScalarMembers, ScalarPair, default_or_value, all_of}
 use Rattle.cue_scope.specs.Core.{Core, top, conjunction, struct, close, list, closed, Cores, no_cores, core, Members, is_scalar, are_scalar}
 use Rattle.cue_eval.specs.Pairs.{pair, pairs_of}
 use Rattle.cue_eval.specs.Literals.{literals, literals_of_parts}
-use Rattle.cue_eval.specs.Places.{Here, ScalarRefuses, ClosingRefuses}
+use Rattle.cue_eval.specs.Places.{IsAtPlace, ScalarRefuses, ClosingRefuses}
 use Rattle.cue_eval.specs.Refuses.{PartsRefuse}
 use Rattle.cue_eval.specs.Laws.{AllHaveParts, IsItsPair}
 
@@ -25,32 +25,32 @@ pub both_false : (a b : Bool) → (a || b) ≡ false → (a ≡ false) × (b ≡
 both_false false b e = (refl, e)
 both_false true b e = absurd (false≢true (sym e))
 
-none_unwrapped : (usual : Option Scalars) (value : Scalars) (x : Scalar) → is_some usual ≡ false → unwrap_or usual value x ≡ value x
+none_unwrapped : (usual : Option ScalarMembers) (value : ScalarMembers) (x : Scalar) → is_some usual ≡ false → unwrap_or usual value x ≡ value x
 none_unwrapped None value x e = refl
 none_unwrapped (Some set) value x e = absurd (false≢true (sym e))
 
-none_brought : (pair : Pair) (x : Scalar) → is_some pair.usual ≡ false → brought pair x ≡ pair.value x
+none_brought : (pair : ScalarPair) (x : Scalar) → is_some pair.usual ≡ false → default_or_value pair x ≡ pair.value x
 none_brought pair x e = none_unwrapped pair.usual pair.value x e
 
 -- without defaults each brings its value
-values_brought : (pairs : List Pair) (x : Scalar) → list_any (λ (pair : Pair). is_some pair.usual) pairs ≡ false → list_all (λ (pair : Pair). pair.value x) pairs ≡ list_all (λ pair. brought pair x) pairs
+values_brought : (pairs : List ScalarPair) (x : Scalar) → list_any (λ (pair : ScalarPair). is_some pair.usual) pairs ≡ false → list_all (λ (pair : ScalarPair). pair.value x) pairs ≡ list_all (λ pair. default_or_value pair x) pairs
 values_brought [] x e = refl
 values_brought (pair ∷ pairs) x e =
-    let parts = both_false (is_some pair.usual) (list_any (λ (p : Pair). is_some p.usual) pairs) e in
-    ap (λ b. b && list_all (λ (p : Pair). p.value x) pairs) (sym (none_brought pair x parts.0)) ∙ ap (λ b. brought pair x && b) (values_brought pairs x parts.1)
+    let parts = both_false (is_some pair.usual) (list_any (λ (p : ScalarPair). is_some p.usual) pairs) e in
+    ap (λ b. b && list_all (λ (p : ScalarPair). p.value x) pairs) (sym (none_brought pair x parts.0)) ∙ ap (λ b. default_or_value pair x && b) (values_brought pairs x parts.1)
 
-default_brought : (given : Bool) (set value : Scalars) (x : Scalar) → (given ≡ false → value x ≡ set x) → unwrap_or (if given then Some set else None) value x ≡ set x
+default_brought : (given : Bool) (set value : ScalarMembers) (x : Scalar) → (given ≡ false → value x ≡ set x) → unwrap_or (if given then Some set else None) value x ≡ set x
 default_brought true set value x h = refl
 default_brought false set value x h = h refl
 
 -- the default of several, or the value of all where none has one, is what all bring
-pub all_brought : (pairs : List Pair) (x : Scalar) → brought (all_of pairs) x ≡ list_all (λ pair. brought pair x) pairs
+pub all_brought : (pairs : List ScalarPair) (x : Scalar) → default_or_value (all_of pairs) x ≡ list_all (λ pair. default_or_value pair x) pairs
 all_brought pairs x =
-    default_brought (list_any (λ (pair : Pair). is_some pair.usual) pairs) (λ y. list_all (λ pair. brought pair y) pairs)
-    (λ y. list_all (λ (pair : Pair). pair.value y) pairs) x (values_brought pairs x)
+    default_brought (list_any (λ (pair : ScalarPair). is_some pair.usual) pairs) (λ y. list_all (λ pair. default_or_value pair y) pairs)
+    (λ y. list_all (λ (pair : ScalarPair). pair.value y) pairs) x (values_brought pairs x)
 
 -- one of several refuses a scalar exactly where all together don't bring it
-one_leaves_out : (test : Pair → Bool) (pairs : List Pair) (A : Type 0) → OneOf (λ pair. A × (test pair ≡ false)) pairs ↔ (A × (list_all test pairs ≡ false))
+one_leaves_out : (test : ScalarPair → Bool) (pairs : List ScalarPair) (A : Type 0) → OneOf (λ pair. A × (test pair ≡ false)) pairs ↔ (A × (list_all test pairs ≡ false))
 one_leaves_out test [] A = (λ h. absurd h, λ h. absurd (false≢true (sym h.1)))
 one_leaves_out test (pair ∷ pairs) A =
     let here = one_false (test pair) (list_all test pairs) in
@@ -60,19 +60,19 @@ one_leaves_out test (pair ∷ pairs) A =
     )
 
 -- each of some refuses it
-each_refuses : (first : Pair) (pairs : List Pair) → OneOf (λ pair. Unit {0}) (first ∷ pairs) ↔ Unit {0}
+each_refuses : (first : ScalarPair) (pairs : List ScalarPair) → OneOf (λ pair. Unit {0}) (first ∷ pairs) ↔ Unit {0}
 each_refuses first pairs = (λ h. tt, λ h. inl tt)
 
-none_refuses : (pairs : List Pair) → OneOf (λ pair. ⊥) pairs → ⊥
+none_refuses : (pairs : List ScalarPair) → OneOf (λ pair. ⊥) pairs → ⊥
 none_refuses [] h = h
 none_refuses (pair ∷ pairs) (inl h) = h
 none_refuses (pair ∷ pairs) (inr h) = none_refuses pairs h
 
 -- several scalar expressions together refuse what one of them refuses
-together : (first : Pair) (pairs : List Pair) (question : Question) → OneOf (λ pair. ScalarRefuses pair question) (first ∷ pairs) ↔ ScalarRefuses (all_of (first ∷ pairs)) question
+together : (first : ScalarPair) (pairs : List ScalarPair) (question : Question) → OneOf (λ pair. ScalarRefuses pair question) (first ∷ pairs) ↔ ScalarRefuses (all_of (first ∷ pairs)) question
 together first pairs (may_be x) = one_leaves_out (λ pair. pair.value x) (first ∷ pairs) (IsScalar x)
 together first pairs (usual x) =
-    let met = one_leaves_out (λ pair. brought pair x) (first ∷ pairs) (IsScalar x) in
+    let met = one_leaves_out (λ pair. default_or_value pair x) (first ∷ pairs) (IsScalar x) in
     let same = all_brought (first ∷ pairs) x in (
       λ h. let found = met.0 h in (found.0, same ∙ found.1),
       λ h. met.1 (h.0, sym same ∙ h.1),
@@ -108,19 +108,19 @@ closing_nothing _ out = out
 nothing_closed : (c : Core) (path : Path) (question : Question) → IsTrue (is_scalar c) → ClosingRefuses (literals c path) question → ⊥
 nothing_closed c path question h out = closing_nothing question (subst (λ (xs : List Members). ClosingRefuses xs question) (nothing_written c path h) out)
 
-same_here : (a b : Question → Type 0) (path : Path) (question : Question) → (a question ↔ b question) → Here a path question ↔ Here b path question
+same_here : (a b : Question → Type 0) (path : Path) (question : Question) → (a question ↔ b question) → IsAtPlace a path question ↔ IsAtPlace b path question
 same_here a b [] question e = e
 same_here a b (step ∷ path) question e = (λ h. h, λ h. h)
 
 -- one of several refuses at their own place
-one_here : (pairs : List Pair) (path : Path) (question : Question) → OneOf (λ pair. Here (ScalarRefuses pair) path question) pairs ↔ Here (λ q. OneOf (λ pair. ScalarRefuses pair q) pairs) path question
+one_here : (pairs : List ScalarPair) (path : Path) (question : Question) → OneOf (λ pair. IsAtPlace (ScalarRefuses pair) path question) pairs ↔ IsAtPlace (λ q. OneOf (λ pair. ScalarRefuses pair q) pairs) path question
 one_here pairs [] question = (λ h. h, λ h. h)
 one_here pairs (step ∷ path) question = (λ h. none_refuses pairs h, λ h. absurd h)
 
 -- Scalars that are joined by `&` refuse, at their own place, exactly what one of them does: a scalar may stand, and is
 -- usual, where each of them says so.
-pub all_refuse : (first : Pair) (pairs : List Pair) (path : Path) (question : Question) →
-    OneOf (λ pair. Here (ScalarRefuses pair) path question) (first ∷ pairs) ↔ Here (ScalarRefuses (all_of (first ∷ pairs))) path question
+pub all_refuse : (first : ScalarPair) (pairs : List ScalarPair) (path : Path) (question : Question) →
+    OneOf (λ pair. IsAtPlace (ScalarRefuses pair) path question) (first ∷ pairs) ↔ IsAtPlace (ScalarRefuses (all_of (first ∷ pairs))) path question
 all_refuse first pairs path question =
     let here = one_here (first ∷ pairs) path question in
     let all = same_here (λ q. OneOf (λ pair. ScalarRefuses pair q) (first ∷ pairs)) (ScalarRefuses (all_of (first ∷ pairs))) path question (together first pairs question) in
@@ -144,7 +144,7 @@ mutual
   by_pair top h parts path question = absurd (false≢true h)
   by_pair _ h parts path question = (λ r. r, λ r. r)
 
-  by_pairs : (cs : Cores) → IsTrue (are_scalar cs) → AllHaveParts cs → (path : Path) (question : Question) → PartsRefuse cs path question ↔ OneOf (λ pair. Here (ScalarRefuses pair) path question) (pairs_of cs)
+  by_pairs : (cs : Cores) → IsTrue (are_scalar cs) → AllHaveParts cs → (path : Path) (question : Question) → PartsRefuse cs path question ↔ OneOf (λ pair. IsAtPlace (ScalarRefuses pair) path question) (pairs_of cs)
   by_pairs no_cores h parts path question = (λ r. r, λ r. r)
   by_pairs (core c cs) h parts path question =
       let scalar = both_true (is_scalar c) (are_scalar cs) h in

@@ -6,7 +6,7 @@ use Rattle.cue_lattice.specs.Limits.{step_limit}
 use Rattle.cue_lattice.specs.Path as paths
 use Rattle.cue_lattice.specs.Path.{Path, label, index}
 use Rattle.cue_lattice.specs.Question.{Question, SameAnswers}
-use Rattle.cue_row.specs.Row.{Refuses, IsRow}
+use Rattle.cue_row.specs.Row.{RefusesAsked, IsRow}
 use Rattle.cue_row.specs.Steps.{step_of}
 use Rattle.cue_row.specs.declared.parts.RowParts.{RowParts as Row}
 use Rattle.cue_row.specs.declared.step.Step.{Step}
@@ -17,10 +17,10 @@ use Rattle.cue_table.specs.Tree.{Tree}
 use Rattle.cue_scope.proofs.Walking.{at_hand}
 use Rattle.cue_syntax.specs.declared.tree.Label.{Label}
 use Rattle.cue_scope.specs.Core.{Core, struct, member, no_members}
-use Rattle.cue_scope.specs.Meaning.{nested, text_of}
+use Rattle.cue_scope.specs.Meaning.{nest_in_labels, text_of}
 use Rattle.cue_eval.specs.Evaluated.{HasAnswersOf}
-use Rattle.cue_eval.specs.Inner.Gathered.{Answers, GivenRefuse, LabelsRefuse, LiteralAnswers}
-use Rattle.cue_eval.specs.Places.{Here, MarkRefuses, StructRefuses}
+use Rattle.cue_eval.specs.Inner.Gathered.{TreeRefusals, GivenRefuse, LabelsRefuse, LiteralAnswers}
+use Rattle.cue_eval.specs.Places.{IsAtPlace, MarkRefuses, StructRefuses}
 use Rattle.cue_eval.specs.Inner.Ready.{IsField, AreGiven, AtLabels}
 use Rattle.cue_eval.proofs.Gathering.{shallow, answer_short}
 use Rattle.cue_eval.proofs.LiteralTables.{struct_table}
@@ -46,8 +46,8 @@ one_given l c one f = record {
 
 -- what stands behind one label more
 behind_more : (l : Label) (c : Core) (step : Step) (inner hung_in after : Tree Row) (labels : Option (List (List ℕ))) → step ≡ steps.Label (text_of l.name) → tree_depth hung_in < step_limit
-    → SameAnswers (Answers hung_in) (λ path question. Here (MarkRefuses l.mark) path question ⊎ Answers inner path question) → HasAnswersOf c inner → labels ≡ None
-    → SameAnswers (Answers after) (LiteralAnswers (λ question. StructRefuses question ⊎ LabelsRefuse labels question) ((step, hung_in) ∷ []))
+    → SameAnswers (TreeRefusals hung_in) (λ path question. IsAtPlace (MarkRefuses l.mark) path question ⊎ TreeRefusals inner path question) → HasAnswersOf c inner → labels ≡ None
+    → SameAnswers (TreeRefusals after) (LiteralAnswers (λ question. StructRefuses question ⊎ LabelsRefuse labels question) ((step, hung_in) ∷ []))
     → HasAnswersOf (struct (member (text_of l.name) l.mark c no_members)) after
 behind_more l c step inner hung_in after labels is deep marked same free hung =
     let made : IsField l c (step, hung_in) = record {
@@ -65,21 +65,21 @@ behind_more l c step inner hung_in after labels is deep marked same free hung =
 -- the same of a chain that begins with that label
 pub behind_first : (after : Tree Row) (chain rest : List Label) (first : Label) (step : Step) (before inner hung_in : Tree Row) (given : List (Step × Tree Row)) (labels : Option (List (List ℕ)))
     → chain ≡ first ∷ rest → step ≡ steps.Label (text_of first.name) → tree_depth hung_in < step_limit
-    → SameAnswers (Answers hung_in) (λ path question. Here (MarkRefuses first.mark) path question ⊎ Answers inner path question)
-    → ((c : Core) → HasAnswersOf c before → HasAnswersOf (nested rest c) inner) → labels ≡ None → given ≡ (step, hung_in) ∷ []
-    → SameAnswers (Answers after) (LiteralAnswers (λ question. StructRefuses question ⊎ LabelsRefuse labels question) given)
-    → (c : Core) → HasAnswersOf c before → HasAnswersOf (nested chain c) after
+    → SameAnswers (TreeRefusals hung_in) (λ path question. IsAtPlace (MarkRefuses first.mark) path question ⊎ TreeRefusals inner path question)
+    → ((c : Core) → HasAnswersOf c before → HasAnswersOf (nest_in_labels rest c) inner) → labels ≡ None → given ≡ (step, hung_in) ∷ []
+    → SameAnswers (TreeRefusals after) (LiteralAnswers (λ question. StructRefuses question ⊎ LabelsRefuse labels question) given)
+    → (c : Core) → HasAnswersOf c before → HasAnswersOf (nest_in_labels chain c) after
 behind_first after chain rest first step before inner hung_in given labels whole is deep marked same free alone hung c known =
-    subst (λ ls. HasAnswersOf (nested ls c) after) (sym whole) (behind_more first (nested rest c) step inner hung_in after labels is deep marked (same c known) free
-    (subst (λ (xs : List (Step × Tree Row)). SameAnswers (Answers after) (LiteralAnswers (λ question. StructRefuses question ⊎ LabelsRefuse labels question) xs)) alone hung))
+    subst (λ ls. HasAnswersOf (nest_in_labels ls c) after) (sym whole) (behind_more first (nest_in_labels rest c) step inner hung_in after labels is deep marked (same c known) free
+    (subst (λ (xs : List (Step × Tree Row)). SameAnswers (TreeRefusals after) (LiteralAnswers (λ question. StructRefuses question ⊎ LabelsRefuse labels question) xs)) alone hung))
 
 literal_short : (own : Question → Type 0) (step : Step) (hung_in : Tree Row) (n : ℕ) → tree_depth hung_in < n → (path : Path) (question : Question) → LiteralAnswers own ((step, hung_in) ∷ []) path question → length path ≤ n
 literal_short own step hung_in n less [] question h = omega arith
 literal_short own step hung_in n less (at ∷ path) question (inl h) = let d = answer_short hung_in path question h.1 in omega arith
 literal_short own step hung_in n less (at ∷ path) question (inr h) = absurd h
 
-pub behind_depth : (after : Tree Row) (own : Question → Type 0) (step : Step) (hung_in : Tree Row) (given : List (Step × Tree Row)) (n : ℕ) → given ≡ (step, hung_in) ∷ [] → tree_depth hung_in < n → IsTable Refuses IsRow after
-    → SameAnswers (Answers after) (LiteralAnswers own given) → tree_depth after ≤ n
+pub behind_depth : (after : Tree Row) (own : Question → Type 0) (step : Step) (hung_in : Tree Row) (given : List (Step × Tree Row)) (n : ℕ) → given ≡ (step, hung_in) ∷ [] → tree_depth hung_in < n → IsTable RefusesAsked IsRow after
+    → SameAnswers (TreeRefusals after) (LiteralAnswers own given) → tree_depth after ≤ n
 behind_depth after own step hung_in given n alone less form same = shallow after n form (λ path question h.
     literal_short own step hung_in n less path question (subst (λ (xs : List (Step × Tree Row)). LiteralAnswers own xs path question) alone ((same path question).0 h)))
 

@@ -5,7 +5,7 @@ use Rattle.cue_lattice.specs.Question.{allows}
 use Rattle.cue_scope.specs.declared.named.Named.TheVariants as sets
 use Rattle.cue_scope.specs.Core.{Core, named, top, struct, close, closed, no_members, dots}
 use Rattle.cue_eval.specs.Refuses.{Refuses}
-use Rattle.cue_eval.specs.Laws.{both}
+use Rattle.cue_eval.specs.Laws.{conjunction_of}
 use Rattle.cue_eval.proofs.Example.{number, field, optional, a, b, c, at, other, left_out, declared_stays, dots_open}
 
 -- #P: {host: string, port?: int}
@@ -61,7 +61,7 @@ close_leaves_structs_below_open (inr h) = h
 
 -- close({a: 1}) & close({b: 2}) leaves out both
 abbrev apart : Core
-apart = both (close (field a (number 1) no_members)) (close (field b (number 2) no_members))
+apart = conjunction_of (close (field a (number 1) no_members)) (close (field b (number 2) no_members))
 
 permissions_meet_at_a : Refuses apart [] (allows a)
 permissions_meet_at_a = inr (inl (inr (left_out _ _ _ refl refl)))
@@ -71,7 +71,7 @@ permissions_meet_at_b = inl (inr (left_out _ _ _ refl refl))
 
 -- #B: {a: int, b?: int}, and #A: #B & {a: 3}
 abbrev extended : Core
-extended = closed (both (closed (struct (field a (named sets.Int) (optional b (named sets.Int) no_members)))) (struct (field a (number 3) no_members)))
+extended = closed (conjunction_of (closed (struct (field a (named sets.Int) (optional b (named sets.Int) no_members)))) (struct (field a (number 3) no_members)))
 
 a_used_definition_declares : Refuses extended [] (allows b) → ⊥
 a_used_definition_declares (inl (inl (inl h))) = h
@@ -83,7 +83,7 @@ a_used_definition_declares (inr out) = declared_stays _ _ refl out
 -- #A: {a: 1, ...}, #B: #A & {b: 1}, and #B & {c: 1}
 abbrev stays_open : Core
 stays_open =
-    both (closed (both (closed (struct (field a (number 1) (dots no_members)))) (struct (field b (number 1) no_members))))
+    conjunction_of (closed (conjunction_of (closed (struct (field a (number 1) (dots no_members)))) (struct (field b (number 1) no_members))))
     (struct (field c (number 1) no_members))
 
 dots_of_a_used_definition_open : Refuses stays_open [] (allows c) → ⊥
@@ -96,5 +96,5 @@ dots_of_a_used_definition_open (inr (inl h)) = h
 dots_of_a_used_definition_open (inr (inr h)) = h
 
 -- #A: {} & 3 leaves out each label, though no struct may stand
-a_conflict_leaves_out_labels : Refuses (closed (both (struct no_members) (number 3))) [] (allows a)
+a_conflict_leaves_out_labels : Refuses (closed (conjunction_of (struct no_members) (number 3))) [] (allows a)
 a_conflict_leaves_out_labels = inr (left_out _ _ _ refl refl)

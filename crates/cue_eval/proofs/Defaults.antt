@@ -11,7 +11,7 @@ use Rattle.cue_syntax.specs.declared.tree.Comparison.TheVariants.{AtMost, AtLeas
 use Rattle.cue_scope.specs.declared.named.Named.TheVariants as sets
 use Rattle.cue_scope.specs.Core.{Core, named, bottom, bound, other_text, disjunction, choice, no_choices}
 use Rattle.cue_eval.specs.Refuses.{Refuses}
-use Rattle.cue_eval.specs.Laws.{both}
+use Rattle.cue_eval.specs.Laws.{conjunction_of}
 use Rattle.cue_eval.proofs.Example.{number, may_be_number, usual_number, in_range}
 
 -- `l | r`, each marked or not
@@ -36,7 +36,7 @@ the_default_is_usual h = false≢true (sym h.1)
 
 -- and 443: the default is left empty
 abbrev no_port : Core
-no_port = both port (number 443)
+no_port = conjunction_of port (number 443)
 
 the_default_is_refused : Refuses no_port [] (usual_number 80)
 the_default_is_refused = inr (inl (in_range 80 (lit< tt), refl))
@@ -88,7 +88,7 @@ no_text_is_an_integer = (tt, refl)
 
 -- uint8 & >=250
 abbrev large : Core
-large = both (named sets.Uint8) (compared AtLeast 250)
+large = conjunction_of (named sets.Uint8) (compared AtLeast 250)
 
 below_it : Refuses large [] (may_be_number 249)
 below_it = inr (inl (in_range 249 (lit< tt), refl))

@@ -13,7 +13,7 @@ use Rattle.cue_lattice.specs.declared.scalar.Scalar.TheVariants as scalars
 use Rattle.cue_syntax.specs.declared.tree.Mark.TheVariants.{Regular, Optional, Required}
 use Rattle.cue_syntax.specs.declared.tree.Sign.TheVariants.{Absent}
 use Rattle.cue_scope.specs.Core.{Core, integer, Members, member}
-use Rattle.cue_eval.specs.Literals.{declares, has_dots, LeaveOut}
+use Rattle.cue_eval.specs.Literals.{has_declaration, has_dots, LeaveOut}
 
 -- an integer, and the questions of it
 abbrev pub number : ℕ → Core
@@ -56,10 +56,10 @@ pub other : (k l : List ℕ) → bytes_eq k l ≡ false → k ≡ l → ⊥
 other k l e f = false≢true (sym e ∙ (bytes_eq-Decides k l).1 f)
 
 pub left_out : (ms : Members) (written : List Members) (l : List ℕ) →
-    list_any has_dots (ms ∷ written) ≡ false → list_any (declares l) (ms ∷ written) ≡ false → LeaveOut (ms ∷ written) l
+    list_any has_dots (ms ∷ written) ≡ false → list_any (has_declaration l) (ms ∷ written) ≡ false → LeaveOut (ms ∷ written) l
 left_out ms written l d e = record { some = (λ f. cc); without_dots = d; undeclared = e }
 
-pub declared_stays : (written : List Members) (l : List ℕ) → list_any (declares l) written ≡ true → LeaveOut written l → ⊥
+pub declared_stays : (written : List Members) (l : List ℕ) → list_any (has_declaration l) written ≡ true → LeaveOut written l → ⊥
 declared_stays written l e out = false≢true (sym out.undeclared ∙ e)
 
 pub dots_open : (written : List Members) (l : List ℕ) → list_any has_dots written ≡ true → LeaveOut written l → ⊥

@@ -6,7 +6,7 @@ use Rattle.cue_lattice.specs.Question.{level_at_most}
 use Rattle.cue_scope.specs.declared.named.Named.TheVariants as sets
 use Rattle.cue_scope.specs.Core.{Core, named, struct, no_members}
 use Rattle.cue_eval.specs.Refuses.{Refuses}
-use Rattle.cue_eval.specs.Laws.{both}
+use Rattle.cue_eval.specs.Laws.{conjunction_of}
 use Rattle.cue_eval.proofs.Example.{number, may_be_number, field, optional, required, a, b, at, other, in_range}
 
 -- a!: 3
@@ -22,12 +22,12 @@ a_required_field_may_lack (inl (e, inr h)) = h
 a_required_field_may_lack (inr h) = h
 
 -- and a: int
-a_regular_field_is_there : Refuses (both wanted (struct (field a (named sets.Int) no_members))) (at a) (level_at_most 1)
+a_regular_field_is_there : Refuses (conjunction_of wanted (struct (field a (named sets.Int) no_members))) (at a) (level_at_most 1)
 a_regular_field_is_there = inr (inl (inl (refl, inl (lit< tt))))
 
 -- a?: 1 and a?: 2
 abbrev unlikely : Core
-unlikely = both (struct (optional a (number 1) no_members)) (struct (optional a (number 2) no_members))
+unlikely = conjunction_of (struct (optional a (number 1) no_members)) (struct (optional a (number 2) no_members))
 
 one_may_not_stand : Refuses unlikely (at a) (may_be_number 1)
 one_may_not_stand = inr (inl (inl (refl, inr (in_range 1 (lit< tt), refl))))
@@ -65,7 +65,7 @@ another_label_is_free (inr (inr h)) = h
 
 -- {b: 1} & 3: nothing may stand, and b keeps its answers
 abbrev clash : Core
-clash = both (struct (field b (number 1) no_members)) (number 3)
+clash = conjunction_of (struct (field b (number 1) no_members)) (number 3)
 
 no_scalar_may_stand : Refuses clash [] (may_be_number 3)
 no_scalar_may_stand = inl (in_range 3 (lit< tt))

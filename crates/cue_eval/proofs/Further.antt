@@ -7,12 +7,12 @@ use Rattle.cue_lattice.specs.Question.{Question, length_at_most}
 use Rattle.cue_scope.specs.Core.{Core, top, conjunction, struct, close, list, closed, Cores, no_cores, core, Members, no_members, member, dots, Elements, ends, goes_on, each, element}
 use Rattle.cue_eval.specs.Literals.{literals, literals_of_parts, literals_of_field, literals_of_element}
 use Rattle.cue_eval.specs.Places.{ClosingRefuses}
-use Rattle.cue_eval.specs.Refuses.{Refuses, PartsRefuse, FieldRefuses, ElementRefuses, count}
+use Rattle.cue_eval.specs.Refuses.{Refuses, PartsRefuse, FieldRefuses, ElementRefuses, count_of_elements}
 use Rattle.cue_eval.specs.Origins.{FurtherElementsAreAlike}
 use Rattle.std.proofs.lemmas.Slice.Eq.{bytes_eq-Decides}
 
 -- behind the elements that are written one by one
-further_literals : (es : Elements) (i j : ℕ) (path : Path) → count es ≤ i → count es ≤ j → literals_of_element es i path ≡ literals_of_element es j path
+further_literals : (es : Elements) (i j : ℕ) (path : Path) → count_of_elements es ≤ i → count_of_elements es ≤ j → literals_of_element es i path ≡ literals_of_element es j path
 further_literals ends i j path h k = refl
 further_literals goes_on i j path h k = refl
 further_literals (each c) i j path h k = refl
@@ -20,7 +20,7 @@ further_literals (element c es) zero j path h k = absurd (omega arith)
 further_literals (element c es) (suc i) zero path h k = absurd (omega arith)
 further_literals (element c es) (suc i) (suc j) path h k = further_literals es i j path (omega arith) (omega arith)
 
-further_refuse : (es : Elements) (i j : ℕ) (path : Path) (question : Question) → count es ≤ i → count es ≤ j → ElementRefuses es i path question → ElementRefuses es j path question
+further_refuse : (es : Elements) (i j : ℕ) (path : Path) (question : Question) → count_of_elements es ≤ i → count_of_elements es ≤ j → ElementRefuses es i path question → ElementRefuses es j path question
 further_refuse ends i j path question h k r = r
 further_refuse goes_on i j path question h k r = r
 further_refuse (each c) i j path question h k r = r
@@ -47,7 +47,7 @@ mutual
   alike_literals (close ms) [] i j rest h k = refl
   alike_literals (close ms) (label m ∷ path) i j rest h k = literals_in_field ms m path i j rest (λ r. h (inl r)) (λ r. k (inl r))
   alike_literals (close ms) (index n ∷ path) i j rest h k = refl
-  alike_literals (list es) [] i j rest h k = further_literals es i j rest (no_less (count es) i h) (no_less (count es) j k)
+  alike_literals (list es) [] i j rest h k = further_literals es i j rest (no_less (count_of_elements es) i h) (no_less (count_of_elements es) j k)
   alike_literals (list es) (label m ∷ path) i j rest h k = refl
   alike_literals (list es) (index n ∷ path) i j rest h k = literals_in_element es n path i j rest h k
   alike_literals (closed c) path i j rest h k = alike_literals c path i j rest (λ r. h (inl r)) (λ r. k (inl r))
@@ -85,7 +85,7 @@ mutual
   further_are_alike (close ms) (label m ∷ path) i j rest question h k (inr r) = absurd r
   further_are_alike (close ms) (index n ∷ path) i j rest question h k (inl r) = absurd r
   further_are_alike (close ms) (index n ∷ path) i j rest question h k (inr r) = absurd r
-  further_are_alike (list es) [] i j rest question h k r = further_refuse es i j rest question (no_less (count es) i h) (no_less (count es) j k) r
+  further_are_alike (list es) [] i j rest question h k r = further_refuse es i j rest question (no_less (count_of_elements es) i h) (no_less (count_of_elements es) j k) r
   further_are_alike (list es) (label m ∷ path) i j rest question h k r = absurd r
   further_are_alike (list es) (index n ∷ path) i j rest question h k r = alike_in_element es n path i j rest question h k r
   further_are_alike (closed c) path i j rest question h k (inl r) = inl (further_are_alike c path i j rest question (λ g. h (inl g)) (λ g. k (inl g)) r)

@@ -8,34 +8,34 @@ use Rattle.cue_row.specs.declared.parts.RowParts.{RowParts as Row}
 use Rattle.cue_table.specs.Tree.{Tree}
 use Rattle.cue_scope.specs.Core.{Core}
 use Rattle.cue_scope.specs.Definitions.{Definition}
-use Rattle.cue_scope.specs.Graph.{IsIn}
-use Rattle.cue_scope.specs.Reached.{times}
+use Rattle.cue_scope.specs.Graph.{IsNodeIn}
+use Rattle.cue_scope.specs.Reached.{times_in_list}
 use Rattle.cue_eval.specs.declared.declared.Declared.{Declared}
-use Rattle.cue_eval.specs.declared.found.Found.{Found}
+use Rattle.cue_eval.specs.declared.definitions.EvaluatedDefinitions.{EvaluatedDefinitions}
 use Rattle.cue_eval.specs.Inner.Finding.{HasRoom, IsFoundAt, AreFound, IsOnce, AreSingle, IsKept}
 use Rattle.cue_eval.specs.Inner.Ready.{IsTableAt}
 use Rattle.cue_eval.specs.Inner.Known.{IsPairOf}
 use Rattle.cue_scalars.specs.declared.valued.Valued.{Valued}
-use Rattle.cue_scope.specs.Meaning.{meaning}
+use Rattle.cue_scope.specs.Meaning.{meaning_of_number}
 
 -- ---- how often a number is in a list
 -- in two lists together a number is as often as in the one and in the other
-pub times_both : (i : ℕ) (us vs : List ℕ) → times i (us ++ vs) ≡ times i us + times i vs
+pub times_both : (i : ℕ) (us vs : List ℕ) → times_in_list i (us ++ vs) ≡ times_in_list i us + times_in_list i vs
 times_both i us vs = sum_by-append (λ j. cond (eqb i j) 1 0) us vs
 
 -- what is in a list is there at least once
-pub in_times : (i : ℕ) (us : List ℕ) → IsIn i us → 1 ≤ times i us
+pub in_times : (i : ℕ) (us : List ℕ) → IsNodeIn i us → 1 ≤ times_in_list i us
 in_times i [] h = absurd h
 in_times i (j ∷ js) h =
-    let one : times i (j ∷ js) ≡ cond (eqb i j) 1 0 + times i js = sum_by-cons (λ k. cond (eqb i k) 1 0) j js in
+    let one : times_in_list i (j ∷ js) ≡ cond (eqb i j) 1 0 + times_in_list i js = sum_by-cons (λ k. cond (eqb i k) 1 0) j js in
     ⊎_elim
-    (λ t. let here : times i (j ∷ js) ≡ 1 + times i js = one ∙ ap (λ b. cond b 1 0 + times i js) t.0 in omega arith)
-    (λ f. let here : times i (j ∷ js) ≡ 0 + times i js = one ∙ ap (λ b. cond b 1 0 + times i js) f.0 in
-    let rest : 1 ≤ times i js = in_times i js (⊎_elim (λ e. absurd (f.1 e)) (λ r. r) h) in omega arith)
+    (λ t. let here : times_in_list i (j ∷ js) ≡ 1 + times_in_list i js = one ∙ ap (λ b. cond b 1 0 + times_in_list i js) t.0 in omega arith)
+    (λ f. let here : times_in_list i (j ∷ js) ≡ 0 + times_in_list i js = one ∙ ap (λ b. cond b 1 0 + times_in_list i js) f.0 in
+    let rest : 1 ≤ times_in_list i js = in_times i js (⊎_elim (λ e. absurd (f.1 e)) (λ r. r) h) in omega arith)
     (eqb_tells i j)
 
 -- a definition that is used once is used in one of two places
-pub once_apart : (i : ℕ) (us vs : List ℕ) → times i (us ++ vs) ≤ 1 → IsIn i us → IsIn i vs → ⊥
+pub once_apart : (i : ℕ) (us vs : List ℕ) → times_in_list i (us ++ vs) ≤ 1 → IsNodeIn i us → IsNodeIn i vs → ⊥
 once_apart i us vs few a b =
     let both = times_both i us vs in
     let here = in_times i us a in
@@ -43,16 +43,16 @@ once_apart i us vs few a b =
     omega arith
 
 -- what is used once in two lists is so in the first
-pub single_left : (found : Found) (us vs : List ℕ) → AreSingle found (us ++ vs) → AreSingle found us
+pub single_left : (found : EvaluatedDefinitions) (us vs : List ℕ) → AreSingle found (us ++ vs) → AreSingle found us
 single_left found us vs h = λ i once. let few = h i once in let both = times_both i us vs in omega arith
 
 -- and in the second
-pub single_right : (found : Found) (us vs : List ℕ) → AreSingle found (us ++ vs) → AreSingle found vs
+pub single_right : (found : EvaluatedDefinitions) (us vs : List ℕ) → AreSingle found (us ++ vs) → AreSingle found vs
 single_right found us vs h = λ i once. let few = h i once in let both = times_both i us vs in omega arith
 
 -- ---- what is kept
 -- where nothing happens all is kept
-pub kept_itself : (us : List ℕ) (found : Found) → IsKept us found found
+pub kept_itself : (us : List ℕ) (found : EvaluatedDefinitions) → IsKept us found found
 kept_itself us found = record {
   pairs = refl;
   once = refl;
@@ -63,15 +63,15 @@ kept_itself us found = record {
 }
 
 -- what is used once was so before
-pub once_before : (us : List ℕ) (old new : Found) (i : ℕ) → IsKept us old new → IsOnce new i → IsOnce old i
+pub once_before : (us : List ℕ) (old new : EvaluatedDefinitions) (i : ℕ) → IsKept us old new → IsOnce new i → IsOnce old i
 once_before us old new i k h = subst (λ (xs : List Bool). get_or xs i false ≡ true) k.once h
 
 -- what was used once is so after
-pub single_after : (us vs : List ℕ) (old new : Found) → IsKept us old new → AreSingle old vs → AreSingle new vs
+pub single_after : (us vs : List ℕ) (old new : EvaluatedDefinitions) → IsKept us old new → AreSingle old vs → AreSingle new vs
 single_after us vs old new k h = λ i once. h i (once_before us old new i k once)
 
 -- one step after another keeps what both keep
-pub kept_both : (us vs ws : List ℕ) (a b c : Found) → ((i : ℕ) → IsIn i us → IsIn i ws) → ((i : ℕ) → IsIn i vs → IsIn i ws) → IsKept us a b → IsKept vs b c → IsKept ws a c
+pub kept_both : (us vs ws : List ℕ) (a b c : EvaluatedDefinitions) → ((i : ℕ) → IsNodeIn i us → IsNodeIn i ws) → ((i : ℕ) → IsNodeIn i vs → IsNodeIn i ws) → IsKept us a b → IsKept vs b c → IsKept ws a c
 kept_both us vs ws a b c one two k m = record {
   pairs = m.pairs ∙ k.pairs;
   once = m.once ∙ k.once;
@@ -82,7 +82,7 @@ kept_both us vs ws a b c one two k m = record {
 }
 
 -- the room stays
-pub room_kept : (us : List ℕ) (old new : Found) (count : ℕ) → IsKept us old new → HasRoom count old → HasRoom count new
+pub room_kept : (us : List ℕ) (old new : EvaluatedDefinitions) (count : ℕ) → IsKept us old new → HasRoom count old → HasRoom count new
 room_kept us old new count k room = record {
   pairs = ap length k.pairs ∙ room.pairs;
   tables = k.count_tables ∙ room.tables;
@@ -90,7 +90,7 @@ room_kept us old new count k room = record {
 }
 
 -- what is known of a definition still is, unless it had its only use here
-pub found_kept : (c : Core) (us : List ℕ) (old new : Found) (i : ℕ) → IsKept us old new → ¬ (IsOnce old i × IsIn i us) → IsFoundAt c i old → IsFoundAt c i new
+pub found_kept : (c : Core) (us : List ℕ) (old new : EvaluatedDefinitions) (i : ℕ) → IsKept us old new → ¬ (IsOnce old i × IsNodeIn i us) → IsFoundAt c i old → IsFoundAt c i new
 found_kept c us old new i k not x = record {
   pair = λ sure. subst (λ (xs : List (Option Valued)). IsPairOf c (get_or xs i None)) (sym k.pairs) (x.pair sure);
   rows = subst (λ (t : Option (Tree Row)). IsTableAt c t) (sym (k.tables i None not)) x.rows;
@@ -98,11 +98,11 @@ found_kept c us old new i k not x = record {
 }
 
 -- of the definitions that are used later all stays known
-pub found_later : (ds : List Definition) (us vs : List ℕ) (old new : Found) → AreSingle old (us ++ vs) → IsKept us old new → AreFound ds vs old → AreFound ds vs new
-found_later ds us vs old new single k h = λ i there. found_kept (meaning ds i) us old new i k (λ x. once_apart i us vs (single i x.0) x.1 there) (h i there)
+pub found_later : (ds : List Definition) (us vs : List ℕ) (old new : EvaluatedDefinitions) → AreSingle old (us ++ vs) → IsKept us old new → AreFound ds vs old → AreFound ds vs new
+found_later ds us vs old new single k h = λ i there. found_kept (meaning_of_number ds i) us old new i k (λ x. once_apart i us vs (single i x.0) x.1 there) (h i there)
 
 -- a definition is taken over
-pub taken_kept : (i : ℕ) (old new : Found) → IsOnce old i → new.pairs.items ≡ old.pairs.items → new.once.items ≡ old.once.items → new.tables.items ≡ set old.tables.items i None
+pub taken_kept : (i : ℕ) (old new : EvaluatedDefinitions) → IsOnce old i → new.pairs.items ≡ old.pairs.items → new.once.items ≡ old.once.items → new.tables.items ≡ set old.tables.items i None
     → new.dots.items ≡ set old.dots.items i None → IsKept (i ∷ []) old new
 taken_kept i old new once pairs same tables dots = record {
   pairs = pairs;
@@ -112,5 +112,5 @@ taken_kept i old new once pairs same tables dots = record {
   tables = λ j d not. ap (λ (xs : List (Option (Tree Row))). get_or xs j d) tables ∙ get_or-set_other old.tables.items i j None d (apart j not);
   dots = λ j d not. ap (λ (xs : List (Option (Tree Declared))). get_or xs j d) dots ∙ get_or-set_other old.dots.items i j None d (apart j not);
 } where
-  apart : (j : ℕ) → ¬ (IsOnce old j × IsIn j (i ∷ [])) → j ≡ i → ⊥
+  apart : (j : ℕ) → ¬ (IsOnce old j × IsNodeIn j (i ∷ [])) → j ≡ i → ⊥
   apart j not e = not (subst (λ z. IsOnce old z) (sym e) once, inl e)

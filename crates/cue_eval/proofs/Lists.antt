@@ -6,12 +6,12 @@ use Rattle.cue_lattice.specs.Question as questions
 use Rattle.cue_lattice.specs.Question.{length_at_most, length_at_least}
 use Rattle.cue_scope.specs.Core.{Core, top, list, ends, goes_on, each, element}
 use Rattle.cue_eval.specs.Refuses.{Refuses}
-use Rattle.cue_eval.specs.Laws.{both}
+use Rattle.cue_eval.specs.Laws.{conjunction_of}
 use Rattle.cue_eval.proofs.Example.{number, may_be_number, in_range}
 
 -- [1, ...] & [_, 2]
 abbrev two : Core
-two = both (list (element (number 1) goes_on)) (list (element top (element (number 2) ends)))
+two = conjunction_of (list (element (number 1) goes_on)) (list (element top (element (number 2) ends)))
 
 less_is_refused : Refuses two [] (length_at_most 1)
 less_is_refused = inr (inl (lit< tt))
@@ -30,7 +30,7 @@ the_greatest_length (inr (inl h)) = omega (arith, h)
 the_greatest_length (inr (inr h)) = h
 
 -- with [1]: the greatest length is below the least
-shorter_lists_conflict : Refuses (both two (list (element (number 1) ends))) [] (length_at_least 2)
+shorter_lists_conflict : Refuses (conjunction_of two (list (element (number 1) ends))) [] (length_at_least 2)
 shorter_lists_conflict = inr (inl (lit< tt))
 
 the_first_element : Refuses two (index 0 ∷ []) (may_be_number 2)

@@ -9,11 +9,11 @@ use Rattle.cue_row.specs.declared.step.Step.{Step}
 use Rattle.cue_table.specs.Tree.{Tree}
 use Rattle.cue_scope.specs.Core.{struct, close, list, Cores, Elements, followed_by, Members}
 use Rattle.cue_eval.specs.Evaluated.{HasAnswersOf}
-use Rattle.cue_eval.specs.Inner.Gathered.{Answers, LabelsRefuse, LiteralAnswers, FurtherRefuse}
+use Rattle.cue_eval.specs.Inner.Gathered.{TreeRefusals, LabelsRefuse, LiteralAnswers, FurtherRefuse}
 use Rattle.cue_eval.specs.Literals.{LeaveOut}
 use Rattle.cue_eval.specs.Places.{StructRefuses, ListRefuses, ClosingRefuses}
 use Rattle.cue_eval.specs.Inner.Ready.{AreGiven, AtLabels, AtIndexes}
-use Rattle.cue_eval.specs.Refuses.{ElementsRefuse, ElementRefuses, count, is_open}
+use Rattle.cue_eval.specs.Refuses.{ElementsRefuse, ElementRefuses, count_of_elements, is_open_list}
 use Rattle.cue_eval.proofs.Rests.{alone, open_followed, count_followed, refuses_followed}
 
 all_allowed : (question : Question) → LabelsRefuse None question → ⊥
@@ -21,7 +21,7 @@ all_allowed (allows l) h = absurd (cc)
 all_allowed _ h = h
 
 pub struct_table : (ms : Members) (given : List (Step × Tree Row)) (labels : Option (List (List ℕ))) (table : Tree Row) → labels ≡ None
-    → SameAnswers (Answers table) (LiteralAnswers (λ question. StructRefuses question ⊎ LabelsRefuse labels question) given)
+    → SameAnswers (TreeRefusals table) (LiteralAnswers (λ question. StructRefuses question ⊎ LabelsRefuse labels question) given)
     → AreGiven (AtLabels ms) given → HasAnswersOf (struct ms) table
 struct_table ms given labels table is same g [] question =
     let e = same [] question in (
@@ -44,7 +44,7 @@ labels_closed ms labels h _ = (λ k. k, λ k. k)
 
 pub close_table : (ms : Members) (given : List (Step × Tree Row)) (labels : Option (List (List ℕ))) (table : Tree Row)
     → ((l : List ℕ) → RefusesLabel labels l ↔ LeaveOut (ms ∷ []) l)
-    → SameAnswers (Answers table) (LiteralAnswers (λ question. StructRefuses question ⊎ LabelsRefuse labels question) given)
+    → SameAnswers (TreeRefusals table) (LiteralAnswers (λ question. StructRefuses question ⊎ LabelsRefuse labels question) given)
     → AreGiven (AtLabels ms) given → HasAnswersOf (close ms) table
 close_table ms given labels table closed same g [] question =
     let e = same [] question in
@@ -63,13 +63,13 @@ close_table ms given labels table closed same g (index i ∷ path) question =
 
 -- a list of elements, by itself
 abbrev pub ElementsAnswer : Cores → Bool → ℕ → Tree Row → Type 0
-ElementsAnswer cs goes_on n table = SameAnswers (Answers table) (ElementsRefuse (ListRefuses n goes_on) (ElementRefuses (alone cs)))
+ElementsAnswer cs goes_on n table = SameAnswers (TreeRefusals table) (ElementsRefuse (ListRefuses n goes_on) (ElementRefuses (alone cs)))
 
 pub elements_table : (cs : Cores) (goes_on : Bool) (given : List (Step × Tree Row)) (table : Tree Row) (n : ℕ) → length given ≡ n
-    → SameAnswers (Answers table) (LiteralAnswers (ListRefuses (length given) goes_on) given)
+    → SameAnswers (TreeRefusals table) (LiteralAnswers (ListRefuses (length given) goes_on) given)
     → AreGiven (AtIndexes 0 (alone cs)) given → ElementsAnswer cs goes_on n table
 elements_table cs goes_on given table n counted same g [] question =
-    subst (λ m. Answers table [] question ↔ ListRefuses m goes_on question) counted (same [] question)
+    subst (λ m. TreeRefusals table [] question ↔ ListRefuses m goes_on question) counted (same [] question)
 elements_table cs goes_on given table n counted same g (label l ∷ path) question =
     let e = same (label l ∷ path) question in
     let r = g.refused (label l) path question in
@@ -82,14 +82,14 @@ elements_table cs goes_on given table n counted same g (index i ∷ path) questi
     )
 
 -- and with what each further element is
-pub list_answers : (cs : Cores) (rest : Elements) (goes_on : Bool) (n : ℕ) (table all : Tree Row) → n ≡ count (alone cs) → is_open rest ≡ goes_on → count rest ≡ 0
-    → ElementsAnswer cs goes_on n table → SameAnswers (Answers all) (λ path question. Answers table path question ⊎ FurtherRefuse n rest path question) → HasAnswersOf (list (followed_by cs rest)) all
+pub list_answers : (cs : Cores) (rest : Elements) (goes_on : Bool) (n : ℕ) (table all : Tree Row) → n ≡ count_of_elements (alone cs) → is_open_list rest ≡ goes_on → count_of_elements rest ≡ 0
+    → ElementsAnswer cs goes_on n table → SameAnswers (TreeRefusals all) (λ path question. TreeRefusals table path question ⊎ FurtherRefuse n rest path question) → HasAnswersOf (list (followed_by cs rest)) all
 list_answers cs rest goes_on n table all counted opened none same more [] question =
     let m = more [] question in
     let e = same [] question in
-    let number : n ≡ count (followed_by cs rest) = let c = count_followed cs rest in omega (arith, c, counted, none) in
-    let open_is : goes_on ≡ is_open (followed_by cs rest) = sym opened ∙ sym (open_followed cs rest) in
-    let kind : ListRefuses n goes_on question ≡ ListRefuses (count (followed_by cs rest)) (is_open (followed_by cs rest)) question = λ i. ListRefuses (number i) (open_is i) question in (
+    let number : n ≡ count_of_elements (followed_by cs rest) = let c = count_followed cs rest in omega (arith, c, counted, none) in
+    let open_is : goes_on ≡ is_open_list (followed_by cs rest) = sym opened ∙ sym (open_followed cs rest) in
+    let kind : ListRefuses n goes_on question ≡ ListRefuses (count_of_elements (followed_by cs rest)) (is_open_list (followed_by cs rest)) question = λ i. ListRefuses (number i) (open_is i) question in (
       λ h. subst (λ t. t) kind (⊎_elim (λ k. e.0 k) (λ k. absurd k) (m.0 h)),
       λ h. m.1 (inl (e.1 (subst (λ t. t) (sym kind) h))),
     )
@@ -107,14 +107,14 @@ list_answers cs rest goes_on n table all counted opened none same more (index i 
 
 -- ---- the same of what calls return
 pub struct_result : {E : Type 0} (r : Result (Tree Row) E) (ms : Members) (given : List (Step × Tree Row)) (labels : Option (List (List ℕ))) → labels ≡ None
-    → IfOk r (λ table. SameAnswers (Answers table) (LiteralAnswers (λ question. StructRefuses question ⊎ LabelsRefuse labels question) given))
+    → IfOk r (λ table. SameAnswers (TreeRefusals table) (LiteralAnswers (λ question. StructRefuses question ⊎ LabelsRefuse labels question) given))
     → AreGiven (AtLabels ms) given → IfOk r (HasAnswersOf (struct ms))
 struct_result (Ok table) ms given labels is same g = struct_table ms given labels table is same g
 struct_result (Err e) ms given labels is same g = same
 
 pub close_result : {E : Type 0} (r : Result (Tree Row) E) (ms : Members) (given : List (Step × Tree Row)) (labels : Option (List (List ℕ)))
     → ((l : List ℕ) → RefusesLabel labels l ↔ LeaveOut (ms ∷ []) l)
-    → IfOk r (λ table. SameAnswers (Answers table) (LiteralAnswers (λ question. StructRefuses question ⊎ LabelsRefuse labels question) given))
+    → IfOk r (λ table. SameAnswers (TreeRefusals table) (LiteralAnswers (λ question. StructRefuses question ⊎ LabelsRefuse labels question) given))
     → AreGiven (AtLabels ms) given → IfOk r (HasAnswersOf (close ms))
 close_result (Ok table) ms given labels closed same g = close_table ms given labels table closed same g
 close_result (Err e) ms given labels closed same g = same

@@ -7,7 +7,7 @@ use Rattle.cue_lattice.specs.Question.{Question, allows}
 use Rattle.cue_scope.specs.Core.{Core, top, conjunction, struct, close, list, closed, Cores, no_cores, core, Members, no_members, member, dots, Elements, ends, goes_on, each, element}
 use Rattle.cue_eval.specs.Literals.{literals, literals_of_parts, literals_of_field, literals_of_element}
 use Rattle.cue_eval.specs.Places.{ClosingRefuses}
-use Rattle.cue_eval.specs.Refuses.{Refuses, PartsRefuse, FieldRefuses, ElementRefuses, count, is_open}
+use Rattle.cue_eval.specs.Refuses.{Refuses, PartsRefuse, FieldRefuses, ElementRefuses, count_of_elements, is_open_list}
 use Rattle.cue_eval.specs.Origins.{scalar, a_struct, a_list, mark, closing, HasOrigin, ComesFromSources, IsStruct}
 
 -- what refuses more has the same sources
@@ -90,7 +90,7 @@ mutual
   comes_from (close ms) (label l ∷ path) question (inr h) = absurd h
   comes_from (close ms) (index i ∷ path) question (inl h) = absurd h
   comes_from (close ms) (index i ∷ path) question (inr h) = absurd h
-  comes_from (list es) [] question h = record { source = a_list (count es) (is_open es); asked = h; all = λ other g. g }
+  comes_from (list es) [] question h = record { source = a_list (count_of_elements es) (is_open_list es); asked = h; all = λ other g. g }
   comes_from (list es) (label l ∷ path) question h = absurd h
   comes_from (list es) (index i ∷ path) question h = element_comes_from es i path question h
   comes_from (closed c) path question (inl h) =

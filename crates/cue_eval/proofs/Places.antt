@@ -8,15 +8,15 @@ use Rattle.cue_syntax.specs.declared.tree.Mark.TheVariants.{Regular, Optional, R
 use Rattle.cue_scope.specs.Core.{Core, top, conjunction, struct, close, list, closed, Cores, no_cores, core, Members, no_members, member, dots, Elements, ends, goes_on, each, element}
 use Rattle.cue_eval.specs.Literals.{literals}
 use Rattle.cue_eval.specs.Places.{ClosingRefuses, level_of_mark}
-use Rattle.cue_eval.specs.Refuses.{Refuses, PartsRefuse, FieldRefuses, ElementRefuses, count, is_open}
-use Rattle.cue_eval.specs.Origins.{Source, scalar, a_struct, a_list, mark, closing, SourceRefuses, IsStruct, IsList, LabelsAreOfStructs, LengthsAreOfLists, FieldsAreOfStructs, ElementsAreOfLists, EndsInLabel, LevelsAreOfFields}
+use Rattle.cue_eval.specs.Refuses.{Refuses, PartsRefuse, FieldRefuses, ElementRefuses, count_of_elements, is_open_list}
+use Rattle.cue_eval.specs.Origins.{LiteralSource, scalar, a_struct, a_list, mark, closing, SourceRefuses, IsStruct, IsListOrigin, LabelsAreOfStructs, LengthsAreOfLists, FieldsAreOfStructs, ElementsAreOfLists, EndsInLabel, LevelsAreOfFields}
 use Rattle.cue_eval.proofs.Origins.{comes_from, struct_written}
 
 -- a list that a source wants, which has the property
 abbrev ListOf : (ℕ → Type 0) → (Question → Type 0) → Type 0
-ListOf P refuses = (n : ℕ) × (more : Bool) × P n × IsList refuses n more
+ListOf P refuses = (n : ℕ) × (more : Bool) × P n × IsListOrigin refuses n more
 
-label_source : (s : Source) (l : List ℕ) → SourceRefuses s (allows l) → IsStruct (SourceRefuses s)
+label_source : (s : LiteralSource) (l : List ℕ) → SourceRefuses s (allows l) → IsStruct (SourceRefuses s)
 label_source (scalar c) l h = absurd h
 label_source a_struct l h = absurd h
 label_source (a_list n more) l h = absurd h
@@ -28,7 +28,7 @@ labels_of_structs c path l h =
     let o = comes_from c path (allows l) h in
     λ question g. o.all question (label_source o.source l o.asked question g)
 
-least_source : (s : Source) (k : ℕ) → SourceRefuses s (length_at_most k) → ListOf (λ n. k < n) (SourceRefuses s)
+least_source : (s : LiteralSource) (k : ℕ) → SourceRefuses s (length_at_most k) → ListOf (λ n. k < n) (SourceRefuses s)
 least_source (scalar c) k h = absurd h
 least_source a_struct k h = absurd h
 least_source (a_list n more) k h = (n, more, h, λ question g. g)
@@ -36,7 +36,7 @@ least_source (mark m) k h = absurd h
 least_source (closing written) k (inl h) = absurd h
 least_source (closing written) k (inr h) = absurd h
 
-greatest_source : (s : Source) (k : ℕ) → SourceRefuses s (length_at_least k) → (n : ℕ) × (n < k) × IsList (SourceRefuses s) n false
+greatest_source : (s : LiteralSource) (k : ℕ) → SourceRefuses s (length_at_least k) → (n : ℕ) × (n < k) × IsListOrigin (SourceRefuses s) n false
 greatest_source (scalar c) k h = absurd h
 greatest_source a_struct k h = absurd h
 greatest_source (a_list n false) k h = (n, h, λ question g. g)
@@ -62,7 +62,7 @@ level_of_mark-small Optional k h = omega arith
 level_of_mark-small Required k h = omega arith
 level_of_mark-small Regular k h = h
 
-level_source : (s : Source) (k : ℕ) → SourceRefuses s (level_at_most k) → k < 2
+level_source : (s : LiteralSource) (k : ℕ) → SourceRefuses s (level_at_most k) → k < 2
 level_source (scalar c) k h = absurd h
 level_source a_struct k h = absurd h
 level_source (a_list n more) k h = absurd h
@@ -173,16 +173,16 @@ mutual
 MayBeElement : ℕ → ℕ → Bool → Type 0
 MayBeElement i n more = (i < n) ⊎ (more ≡ true)
 
-is_element : (es : Elements) (i : ℕ) (rest : Path) (question : Question) → ElementRefuses es i rest question → MayBeElement i (count es) (is_open es)
+is_element : (es : Elements) (i : ℕ) (rest : Path) (question : Question) → ElementRefuses es i rest question → MayBeElement i (count_of_elements es) (is_open_list es)
 unfolding MayBeElement
 is_element ends i rest question h = absurd h
 is_element goes_on i rest question h = absurd h
 is_element (each c) i rest question h = inr refl
 is_element (element c es) zero rest question h = inl (omega arith)
-is_element (element c es) (suc i) rest question h = ⊎_elim (λ (below : i < count es). inl (omega arith)) (λ further. inr further) (is_element es i rest question h)
+is_element (element c es) (suc i) rest question h = ⊎_elim (λ (below : i < count_of_elements es). inl (omega arith)) (λ further. inr further) (is_element es i rest question h)
 
 abbrev ListWith : ℕ → (Question → Type 0) → Type 0
-ListWith i refuses = (n : ℕ) × (more : Bool) × MayBeElement i n more × IsList refuses n more
+ListWith i refuses = (n : ℕ) × (more : Bool) × MayBeElement i n more × IsListOrigin refuses n more
 
 more_refuse : (less more : Question → Type 0) (i : ℕ) → ListWith i less → ((other : Question) → less other → more other) → ListWith i more
 more_refuse less more i found all = (found.0, found.1, found.2, λ other g. all other (found.3 other g))
@@ -201,7 +201,7 @@ mutual
   below_lists (close ms) (label m ∷ path) i rest question (inr h) = absurd h
   below_lists (close ms) (index j ∷ path) i rest question (inl h) = absurd h
   below_lists (close ms) (index j ∷ path) i rest question (inr h) = absurd h
-  below_lists (list es) [] i rest question h = (count es, is_open es, is_element es i rest question h, λ other g. g)
+  below_lists (list es) [] i rest question h = (count_of_elements es, is_open_list es, is_element es i rest question h, λ other g. g)
   below_lists (list es) (label m ∷ path) i rest question h = absurd h
   below_lists (list es) (index j ∷ path) i rest question h = elements_in_element es j path i rest question h
   below_lists (closed c) path i rest question (inl h) =

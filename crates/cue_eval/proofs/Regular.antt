@@ -8,17 +8,17 @@ use Rattle.cue_syntax.specs.Syntax as tree
 use Rattle.cue_syntax.specs.Syntax.{Entries, no_entries, entry, ellipsis, field, definition}
 use Rattle.cue_scope.specs.Core.{Core, struct}
 use Rattle.cue_scope.specs.Definitions.{Definition}
-use Rattle.cue_scope.specs.Graph.{IsIn}
+use Rattle.cue_scope.specs.Graph.{IsNodeIn}
 use Rattle.cue_scope.specs.Limits.{size_of_members, depth_of_members}
-use Rattle.cue_scope.specs.Meaning.{meaning, meant_members, meant_fields}
+use Rattle.cue_scope.specs.Meaning.{meaning_of_number, meant_members, meant_fields}
 use Rattle.cue_scope.specs.Uses.{uses, uses_of_entries, uses_of_fields}
 use Rattle.cue_scope.proofs.Nodes.{in_append, in_append_left, in_append_right}
-use Rattle.cue_eval.specs.declared.rows.Tables.{Tables}
+use Rattle.cue_eval.specs.declared.tables.TableBuilder.{TableBuilder}
 use Rattle.cue_eval.specs.Evaluated.{HasAnswersOf}
 use Rattle.cue_eval.specs.Inner.Ready.{all_definitions, IsReady, AreReadyEntries, AreReadyFields}
 use Rattle.cue_eval.specs.Refuses.{Refuses, FieldRefuses}
 
-used_by_fields : (ds : List Definition) (es : Entries) (i : ℕ) → IsIn i (uses_of_fields ds es) → IsIn i (uses_of_entries ds es)
+used_by_fields : (ds : List Definition) (es : Entries) (i : ℕ) → IsNodeIn i (uses_of_fields ds es) → IsNodeIn i (uses_of_entries ds es)
 used_by_fields ds no_entries i h = h
 used_by_fields ds (entry ellipsis es) i h = used_by_fields ds es i h
 used_by_fields ds (entry (field l chain e) es) i h =
@@ -40,11 +40,11 @@ no_deeper ds m (entry ellipsis es) = no_deeper ds m es
 no_deeper ds m (entry (field l chain e) es) = let rest = no_deeper ds m es in omega arith
 no_deeper ds m (entry (definition t place chain e) es) = no_deeper ds m es
 
-pub fields_ready : (known : Tables) (es : Entries) → AreReadyEntries known es → AreReadyFields known es
+pub fields_ready : (known : TableBuilder) (es : Entries) → AreReadyEntries known es → AreReadyFields known es
 fields_ready known es h =
     let ds = all_definitions known in
-    let less = no_larger ds (meaning ds) es in
-    let shallow = no_deeper ds (meaning ds) es in
+    let less = no_larger ds (meaning_of_number ds) es in
+    let shallow = no_deeper ds (meaning_of_number ds) es in
     let s = h.size in
     let d = h.depth in record {
       right = h.right;
@@ -54,7 +54,7 @@ fields_ready known es h =
       depth = omega arith;
     }
 
-pub struct_ready : (known : Tables) (es : Entries) (comma : Bool) → IsReady known (tree.struct es comma) → AreReadyFields known es
+pub struct_ready : (known : TableBuilder) (es : Entries) (comma : Bool) → IsReady known (tree.struct es comma) → AreReadyFields known es
 struct_ready known es comma h =
     let s = h.size in
     fields_ready known es (record { right = h.right.0; used = h.used; terms = h.terms; size = omega arith; depth = h.depth })

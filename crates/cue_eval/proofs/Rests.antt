@@ -5,18 +5,18 @@ use Rattle.cue_lattice.specs.Path.{Path}
 use Rattle.cue_lattice.specs.Question.{Question}
 use Rattle.cue_scope.specs.Core.{Core, Cores, no_cores, core, Members, Elements, ends, followed_by}
 use Rattle.cue_eval.specs.Closing.{OneOfElements}
-use Rattle.cue_eval.specs.Refuses.{ElementRefuses, count, is_open}
+use Rattle.cue_eval.specs.Refuses.{ElementRefuses, count_of_elements, is_open_list}
 use Rattle.cue_eval.specs.Words.{words, words_of_cores, words_of_elements}
 
 -- these elements, and nothing behind them
 abbrev pub alone : Cores → Elements
 alone cs = followed_by cs ends
 
-pub open_followed : (cs : Cores) (rest : Elements) → is_open (followed_by cs rest) ≡ is_open rest
+pub open_followed : (cs : Cores) (rest : Elements) → is_open_list (followed_by cs rest) ≡ is_open_list rest
 open_followed no_cores rest = refl
 open_followed (core c cs) rest = open_followed cs rest
 
-pub count_followed : (cs : Cores) (rest : Elements) → count (followed_by cs rest) ≡ count (alone cs) + count rest
+pub count_followed : (cs : Cores) (rest : Elements) → count_of_elements (followed_by cs rest) ≡ count_of_elements (alone cs) + count_of_elements rest
 count_followed no_cores rest = omega arith
 count_followed (core c cs) rest = let more = count_followed cs rest in omega (arith, more)
 
@@ -26,7 +26,7 @@ words_followed (core c cs) rest = ap (λ z. words c ++ z) (words_followed cs res
 
 -- what holds of an element, counted from the first one behind these
 abbrev pub Behind : Cores → (ℕ → Type 0) → ℕ → Type 0
-Behind cs P i = (k : ℕ) × (count (alone cs) + k ≡ i) × P k
+Behind cs P i = (k : ℕ) × (count_of_elements (alone cs) + k ≡ i) × P k
 
 none_behind : (c : Core) (cs : Cores) (P : ℕ → Type 0) → ¬ Behind (core c cs) P zero
 none_behind c cs P (k, e, p) = absurd (omega (arith, e))

@@ -4,7 +4,7 @@ use Rattle.cue_lattice.specs.Path.{Path, label, index}
 use Rattle.cue_lattice.specs.Question.{length_at_most}
 use Rattle.cue_scope.specs.Core.{Core, top, conjunction, struct, close, list, closed, Cores, no_cores, core, Members, no_members, member, dots, Elements, ends, goes_on, each, element}
 use Rattle.cue_scope.specs.Limits.{size, size_of_cores, size_of_members, size_of_elements}
-use Rattle.cue_eval.specs.Refuses.{PartsRefuse, FieldRefuses, ElementRefuses, count}
+use Rattle.cue_eval.specs.Refuses.{PartsRefuse, FieldRefuses, ElementRefuses, count_of_elements}
 use Rattle.cue_eval.specs.Validity.{LengthsAreWithinSize}
 
 some_size : (c : Core) → 1 ≤ size c
@@ -15,7 +15,7 @@ some_size (list es) = omega arith
 some_size (closed c) = omega arith
 some_size _ = omega arith
 
-no_more_elements : (es : Elements) → count es ≤ size_of_elements es
+no_more_elements : (es : Elements) → count_of_elements es ≤ size_of_elements es
 no_more_elements ends = omega arith
 no_more_elements goes_on = omega arith
 no_more_elements (each c) = omega arith

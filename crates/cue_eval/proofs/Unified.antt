@@ -7,7 +7,7 @@ use Rattle.cue_scope.specs.Core.{Members, no_members, member, dots}
 use Rattle.cue_eval.specs.Literals.{literals, LeaveOut}
 use Rattle.cue_eval.specs.Places.{ClosingRefuses}
 use Rattle.cue_eval.specs.Refuses.{FieldRefuses}
-use Rattle.cue_eval.specs.Laws.{joined, IsUnification, IsMonotone, IsSplitAnywhere, IsClosedForGood, IsClosedByParts}
+use Rattle.cue_eval.specs.Laws.{joined_members, IsUnification, IsMonotone, IsSplitAnywhere, IsClosedForGood, IsClosedByParts}
 use Rattle.cue_eval.proofs.Written.{left_out_by_one}
 
 pub unification : IsUnification
@@ -35,7 +35,7 @@ pub monotone : IsMonotone
 monotone a c b narrow path question h = ⊎_elim (λ g. inl (narrow path question g)) inr h
 
 fields_joined : (some others : Members) (l : List ℕ) (path : Path) (question : Question) →
-    FieldRefuses (joined some others) l path question ↔ (FieldRefuses some l path question ⊎ FieldRefuses others l path question)
+    FieldRefuses (joined_members some others) l path question ↔ (FieldRefuses some l path question ⊎ FieldRefuses others l path question)
 fields_joined no_members others l path question = (inr, λ h. ⊎_elim (λ n. absurd n) (λ g. g) h)
 fields_joined (dots some) others l path question = fields_joined some others l path question
 fields_joined (member k mark c some) others l path question =

@@ -9,7 +9,7 @@ use Rattle.cue_lattice.specs.Question.{Question, allows}
 use Rattle.cue_sets.specs.Texts.{is_listed}
 use Rattle.cue_row.specs.ValidRow.{IsWord, AreWords, IsWordStep}
 use Rattle.cue_scope.specs.Core.{Core, top, conjunction, struct, close, list, closed, Cores, no_cores, core, Members, no_members, member, dots, Elements, ends, goes_on, each, element}
-use Rattle.cue_eval.specs.Literals.{literals, literals_of_parts, literals_of_field, literals_of_element, declares, LeaveOut}
+use Rattle.cue_eval.specs.Literals.{literals, literals_of_parts, literals_of_field, literals_of_element, has_declaration, LeaveOut}
 use Rattle.cue_eval.specs.Refuses.{PartsRefuse, FieldRefuses, ElementRefuses}
 use Rattle.cue_eval.specs.Words.{words, words_of_cores, words_of_members, words_of_elements}
 use Rattle.cue_eval.specs.Validity.{PathsAreWritten, UnwrittenLabelsAreAlike}
@@ -75,27 +75,27 @@ mutual
   element_is_written (element c es) w (suc i) path question h = element_is_written es (words_of_both (words c) (words_of_elements es) w).1 i path question h
 
 -- ---- a label that isn't written is declared by no struct literal
-undeclared_here : (ms : Members) (l : List ℕ) → is_listed (words_of_members ms) l ≡ false → declares l ms ≡ false
+undeclared_here : (ms : Members) (l : List ℕ) → is_listed (words_of_members ms) l ≡ false → has_declaration l ms ≡ false
 undeclared_here no_members l h = refl
 undeclared_here (dots ms) l h = undeclared_here ms l h
 undeclared_here (member k mark c ms) l h =
     let parts = both_false (bytes_eq k l) (is_listed (words c ++ words_of_members ms) l) h in
-    either_false (bytes_eq k l) (declares l ms) parts.0 (undeclared_here ms l (in_neither (words c) (words_of_members ms) l parts.1).1)
+    either_false (bytes_eq k l) (has_declaration l ms) parts.0 (undeclared_here ms l (in_neither (words c) (words_of_members ms) l parts.1).1)
 
-undeclared_by_both : (xs ys : List Members) (l : List ℕ) → list_any (declares l) xs ≡ false → list_any (declares l) ys ≡ false → list_any (declares l) (xs ++ ys) ≡ false
-undeclared_by_both xs ys l e f = list_any-append (declares l) xs ys ∙ either_false (list_any (declares l) xs) (list_any (declares l) ys) e f
+undeclared_by_both : (xs ys : List Members) (l : List ℕ) → list_any (has_declaration l) xs ≡ false → list_any (has_declaration l) ys ≡ false → list_any (has_declaration l) (xs ++ ys) ≡ false
+undeclared_by_both xs ys l e f = list_any-append (has_declaration l) xs ys ∙ either_false (list_any (has_declaration l) xs) (list_any (has_declaration l) ys) e f
 
-undeclared_if : (b : Bool) (xs : List Members) (l : List ℕ) → list_any (declares l) xs ≡ false → list_any (declares l) (cond b xs []) ≡ false
+undeclared_if : (b : Bool) (xs : List Members) (l : List ℕ) → list_any (has_declaration l) xs ≡ false → list_any (has_declaration l) (cond b xs []) ≡ false
 undeclared_if true xs l e = e
 undeclared_if false xs l e = refl
 
 mutual
-  undeclared : (c : Core) (path : Path) (l : List ℕ) → is_listed (words c) l ≡ false → list_any (declares l) (literals c path) ≡ false
+  undeclared : (c : Core) (path : Path) (l : List ℕ) → is_listed (words c) l ≡ false → list_any (has_declaration l) (literals c path) ≡ false
   undeclared (conjunction cs) path l h = undeclared_by_parts cs path l h
-  undeclared (struct ms) [] l h = either_false (declares l ms) false (undeclared_here ms l h) refl
+  undeclared (struct ms) [] l h = either_false (has_declaration l ms) false (undeclared_here ms l h) refl
   undeclared (struct ms) (label m ∷ path) l h = undeclared_in_field ms m path l h
   undeclared (struct ms) (index i ∷ path) l h = refl
-  undeclared (close ms) [] l h = either_false (declares l ms) false (undeclared_here ms l h) refl
+  undeclared (close ms) [] l h = either_false (has_declaration l ms) false (undeclared_here ms l h) refl
   undeclared (close ms) (label m ∷ path) l h = undeclared_in_field ms m path l h
   undeclared (close ms) (index i ∷ path) l h = refl
   undeclared (list es) [] l h = refl
@@ -104,13 +104,13 @@ mutual
   undeclared (closed c) path l h = undeclared c path l h
   undeclared _ path l h = refl
 
-  undeclared_by_parts : (cs : Cores) (path : Path) (l : List ℕ) → is_listed (words_of_cores cs) l ≡ false → list_any (declares l) (literals_of_parts cs path) ≡ false
+  undeclared_by_parts : (cs : Cores) (path : Path) (l : List ℕ) → is_listed (words_of_cores cs) l ≡ false → list_any (has_declaration l) (literals_of_parts cs path) ≡ false
   undeclared_by_parts no_cores path l h = refl
   undeclared_by_parts (core c cs) path l h =
       let parts = in_neither (words c) (words_of_cores cs) l h in
       undeclared_by_both (literals c path) (literals_of_parts cs path) l (undeclared c path l parts.0) (undeclared_by_parts cs path l parts.1)
 
-  undeclared_in_field : (ms : Members) (m : List ℕ) (path : Path) (l : List ℕ) → is_listed (words_of_members ms) l ≡ false → list_any (declares l) (literals_of_field ms m path) ≡ false
+  undeclared_in_field : (ms : Members) (m : List ℕ) (path : Path) (l : List ℕ) → is_listed (words_of_members ms) l ≡ false → list_any (has_declaration l) (literals_of_field ms m path) ≡ false
   undeclared_in_field no_members m path l h = refl
   undeclared_in_field (dots ms) m path l h = undeclared_in_field ms m path l h
   undeclared_in_field (member k mark c ms) m path l h =
@@ -118,14 +118,14 @@ mutual
       undeclared_by_both (cond (bytes_eq k m) (literals c path) []) (literals_of_field ms m path) l
       (undeclared_if (bytes_eq k m) (literals c path) l (undeclared c path l parts.0)) (undeclared_in_field ms m path l parts.1)
 
-  undeclared_in_element : (es : Elements) (i : ℕ) (path : Path) (l : List ℕ) → is_listed (words_of_elements es) l ≡ false → list_any (declares l) (literals_of_element es i path) ≡ false
+  undeclared_in_element : (es : Elements) (i : ℕ) (path : Path) (l : List ℕ) → is_listed (words_of_elements es) l ≡ false → list_any (has_declaration l) (literals_of_element es i path) ≡ false
   undeclared_in_element ends i path l h = refl
   undeclared_in_element goes_on i path l h = refl
   undeclared_in_element (each c) i path l h = undeclared c path l h
   undeclared_in_element (element c es) zero path l h = undeclared c path l (in_neither (words c) (words_of_elements es) l h).0
   undeclared_in_element (element c es) (suc i) path l h = undeclared_in_element es i path l (in_neither (words c) (words_of_elements es) l h).1
 
-left_out : (written : List Members) (k l : List ℕ) → LeaveOut written k → list_any (declares l) written ≡ false → LeaveOut written l
+left_out : (written : List Members) (k l : List ℕ) → LeaveOut written k → list_any (has_declaration l) written ≡ false → LeaveOut written l
 left_out written k l h e = record { some = h.some; without_dots = h.without_dots; undeclared = e }
 
 -- ---- a place that leaves out a label leaves out each one that isn't written

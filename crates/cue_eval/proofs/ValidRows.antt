@@ -17,18 +17,18 @@ use Rattle.cue_row.specs.declared.parts.RowParts.{RowParts as Row}
 use Rattle.cue_row.specs.declared.kind.RowKind.{RowKind}
 use Rattle.cue_row.specs.declared.kind.RowKind.TheVariants as kinds
 use Rattle.cue_row.specs.declared.question.Question as program
-use Rattle.cue_row.specs.Kinds.{IsEmptySet, IsKind}
+use Rattle.cue_row.specs.Kinds.{IsEmptySet, IsRowKind}
 use Rattle.cue_row.specs.LabelSets.{RefusesLabel}
 use Rattle.cue_row.specs.LabelLaws.{same_labels}
 use Rattle.cue_row.specs.Lengths.{RefusesLength}
 use Rattle.cue_row.specs.Row as rows
-use Rattle.cue_row.specs.Row.{RowRefuses, IsRow}
+use Rattle.cue_row.specs.Row.{RowRefusesQuestion, IsRow}
 use Rattle.cue_row.specs.ValidRow.{UsualFits, LabelsFit, LengthsFit, AreLengths, HasWords, IsValidRow}
 use Rattle.cue_row.proofs.Free.{no_greatest}
 use Rattle.cue_row.proofs.MetSets.{empty_or_not, not_refused}
 use Rattle.cue_scope.specs.Core.{Core}
 use Rattle.cue_scope.specs.Limits.{size}
-use Rattle.cue_eval.specs.Origins.{IsStruct, IsList, IsLevel}
+use Rattle.cue_eval.specs.Origins.{IsStruct, IsListOrigin, IsLevelOrigin}
 use Rattle.cue_eval.specs.Refuses.{Refuses}
 use Rattle.cue_eval.specs.Words.{words, WritesWords}
 use Rattle.cue_eval.proofs.Places.{labels_of_structs, lengths_of_lists}
@@ -59,9 +59,9 @@ refuses_lacked set (scalars.Text t) s e = e
 
 -- a row that says what an expression refuses at a path
 pub record IsRowAt (c : Core) (path : Path) (row : Row) : Type 0 where
-  pub says : (question : Question) → RowRefuses row question ↔ Refuses c path question
+  pub says : (question : Question) → RowRefusesQuestion row question ↔ Refuses c path question
   pub form : IsRow row
-  pub not_free : ((question : program.Question) → ¬ rows.Refuses row question) → ⊥
+  pub not_free : ((question : program.Question) → ¬ rows.RefusesAsked row question) → ⊥
 
 -- ---- kinds
 no_value : (c : Core) (path : Path) (row : Row) → IsRowAt c path row → ((x : Scalar) → IsScalar x → Refuses c path (may_be x)) → IsEmptySet row.value
@@ -89,7 +89,7 @@ pub record ListRow (row : Row) : Type 0 where
   pub usual : IsEmptySet row.usual
   pub struct : row.struct_ok ≡ false
 
-pub list_row : (c : Core) (path : Path) (row : Row) (count : ℕ) (goes_on : Bool) → IsRowAt c path row → IsList (Refuses c path) count goes_on → ListRow row
+pub list_row : (c : Core) (path : Path) (row : Row) (count : ℕ) (goes_on : Bool) → IsRowAt c path row → IsListOrigin (Refuses c path) count goes_on → ListRow row
 list_row c path row count goes_on at h = record {
   value = no_value c path row at (λ x s. h (may_be x) s);
   usual = no_usual c path row at (λ x s. h (usual x) s);
@@ -117,7 +117,7 @@ list_of_most c path row at n r =
     list_row c path row found.0 false at found.2
 
 -- where both a struct and a list may stand, only levels are refused
-pub only_levels : (c : Core) (path : Path) (row : Row) → IsRowAt c path row → row.struct_ok ≡ true → row.list_ok ≡ true → (question : Question) → Refuses c path question → IsLevel question
+pub only_levels : (c : Core) (path : Path) (row : Row) → IsRowAt c path row → row.struct_ok ≡ true → row.list_ok ≡ true → (question : Question) → Refuses c path question → IsLevelOrigin question
 only_levels c path row at s l question r =
     ⊎_elim (λ level. level)
     (λ more. ⊎_elim (λ both. absurd (clash row.struct_ok s ((at.says questions.struct).1 both.0)))
@@ -128,7 +128,7 @@ only_levels c path row at s l question r =
 -- the kind of a row, and what fits it
 pub record Fits (row : Row) : Type 0 where
   pub kind : RowKind
-  pub is_kind : IsKind row kind
+  pub is_kind : IsRowKind row kind
   pub usual : UsualFits row kind
   pub labels : LabelsFit row kind
   pub row_lengths : LengthsFit row kind

@@ -6,7 +6,7 @@ use Rattle.cue_lattice.proofs.OneOf.{one_of-push}
 use Rattle.cue_lattice.specs.Path as paths
 use Rattle.cue_lattice.specs.Path.{Path, label, index}
 use Rattle.cue_lattice.specs.Question.{Question, SameAnswers}
-use Rattle.cue_row.specs.Row.{Refuses, IsRow}
+use Rattle.cue_row.specs.Row.{RefusesAsked, IsRow}
 use Rattle.cue_row.specs.Steps.{step_of}
 use Rattle.cue_row.specs.declared.parts.RowParts.{RowParts as Row}
 use Rattle.cue_row.specs.declared.step.Step.{Step}
@@ -20,58 +20,58 @@ use Rattle.cue_syntax.specs.declared.tree.Declaration.TheVariants as declaration
 use Rattle.cue_syntax.proofs.Views.{view-Field, view-Definition}
 use Rattle.cue_scope.proofs.Walking.{at_hand}
 use Rattle.cue_syntax.specs.declared.tree.Label.{Label}
-use Rattle.cue_syntax.specs.Syntax.{Expression, Entry, Entries, no_entries, entry, ellipsis, field, definition, expression, elements, entries, entry_tree}
+use Rattle.cue_syntax.specs.Syntax.{Expression, Entry, Entries, no_entries, entry, ellipsis, field, definition, expression, elements_of_list, entries, entry_tree}
 use Rattle.cue_scope.specs.Core.{Core, Cores}
 use Rattle.cue_scope.specs.Limits.{size, depth}
 use Rattle.cue_scope.specs.Measures.{Total}
-use Rattle.cue_scope.specs.Meaning.{meaning, nested, text_of}
+use Rattle.cue_scope.specs.Meaning.{meaning_of_number, nest_in_labels, text_of}
 use Rattle.cue_scope.specs.Terms.{terms, terms_of_entries}
 use Rattle.cue_scope.specs.Uses.{uses, uses_of_fields}
 use Rattle.cue_scope.proofs.Measuring.{total_nested}
 use Rattle.cue_scope.proofs.Nodes.{in_append_left, in_append_right}
-use Rattle.cue_eval.specs.declared.rows.Tables.{Tables}
+use Rattle.cue_eval.specs.declared.tables.TableBuilder.{TableBuilder}
 use Rattle.cue_eval.specs.Evaluated.{HasAnswersOf}
-use Rattle.cue_eval.specs.Inner.Gathered.{Answers, GivenRefuse}
+use Rattle.cue_eval.specs.Inner.Gathered.{TreeRefusals, GivenRefuse}
 use Rattle.cue_eval.specs.Inner.Known.{core_of, parts_of}
-use Rattle.cue_eval.specs.Places.{Here, MarkRefuses}
+use Rattle.cue_eval.specs.Places.{IsAtPlace, MarkRefuses}
 use Rattle.cue_eval.specs.Inner.Ready.{all_definitions, members_of, AreKnown, IsReady, AreReadyFields, IsField, AreGiven, AtLabels}
 use Rattle.cue_eval.proofs.Depth.{paths_within_depth}
 use Rattle.cue_eval.proofs.Gathering.{shallow, marked_depth}
 use Rattle.cue_eval.proofs.Leaves.{nil_both}
 
-pub known_left : (known : Tables) (us vs : List ℕ) → AreKnown known (us ++ vs) → AreKnown known us
+pub known_left : (known : TableBuilder) (us vs : List ℕ) → AreKnown known (us ++ vs) → AreKnown known us
 known_left known us vs h = record { pairs = λ i there. h.pairs i (in_append_left us vs i there); tables = λ i there. h.tables i (in_append_left us vs i there) }
 
-pub known_right : (known : Tables) (us vs : List ℕ) → AreKnown known (us ++ vs) → AreKnown known vs
+pub known_right : (known : TableBuilder) (us vs : List ℕ) → AreKnown known (us ++ vs) → AreKnown known vs
 known_right known us vs h = record { pairs = λ i there. h.pairs i (in_append_right us vs i there); tables = λ i there. h.tables i (in_append_right us vs i there) }
 
 -- a table that refuses what an expression does is no deeper than the expression
-pub within_depth : (c : Core) (table : Tree Row) → IsTable Refuses IsRow table → HasAnswersOf c table → tree_depth table ≤ depth c
+pub within_depth : (c : Core) (table : Tree Row) → IsTable RefusesAsked IsRow table → HasAnswersOf c table → tree_depth table ≤ depth c
 within_depth c table form same = shallow table (depth c) form (λ path question h. paths_within_depth c path question ((same path question).0 h))
 
-abbrev pub each_of : Tables → List Expr → Cores
-each_of known es = parts_of known.pairs (elements es)
+abbrev pub each_of : TableBuilder → List Expr → Cores
+each_of known es = parts_of known.pairs (elements_of_list es)
 
 -- ---- the declarations of a struct literal or of a text
-pub record Gathering (known : Tables) (given : List (Step × Tree Row)) (all left : Entries) : Type 0 where
+pub record Gathering (known : TableBuilder) (given : List (Step × Tree Row)) (all left : Entries) : Type 0 where
   pub refused : (step : paths.Step) (path : Path) (question : Question) →
       (GivenRefuse given step path question ⊎ AtLabels (members_of known left) step path question) ↔ AtLabels (members_of known all) step path question
   pub deep : All (λ one. tree_depth one.1 < step_limit) given
   pub others : AreReadyFields known left
 
-pub gathering_none : (known : Tables) (all : Entries) → AreReadyFields known all → Gathering known [] all all
+pub gathering_none : (known : TableBuilder) (all : Entries) → AreReadyFields known all → Gathering known [] all all
 gathering_none known all h = record {
   refused = λ step path question. (λ k. ⊎_elim (λ g. absurd g) (λ g. g) k, λ k. inr k);
   deep = λ k d l. absurd (omega arith);
   others = h;
 }
 
-past_ellipsis : (known : Tables) (given : List (Step × Tree Row)) (all rest : Entries) → Gathering known given all (entry ellipsis rest) → (step : paths.Step) (path : Path) (question : Question) →
+past_ellipsis : (known : TableBuilder) (given : List (Step × Tree Row)) (all rest : Entries) → Gathering known given all (entry ellipsis rest) → (step : paths.Step) (path : Path) (question : Question) →
     (GivenRefuse given step path question ⊎ AtLabels (members_of known rest) step path question) ↔ AtLabels (members_of known all) step path question
 past_ellipsis known given all rest w (label l) path question = w.refused (label l) path question
 past_ellipsis known given all rest w (index i) path question = w.refused (index i) path question
 
-pub ellipsis_passed : (known : Tables) (given : List (Step × Tree Row)) (all rest : Entries) → Gathering known given all (entry ellipsis rest) → Gathering known given all rest
+pub ellipsis_passed : (known : TableBuilder) (given : List (Step × Tree Row)) (all rest : Entries) → Gathering known given all (entry ellipsis rest) → Gathering known given all rest
 ellipsis_passed known given all rest w =
     let here = w.others in record {
       refused = λ step path question. past_ellipsis known given all rest w step path question;
@@ -79,7 +79,7 @@ ellipsis_passed known given all rest w =
       others = record { right = here.right.1; used = here.used; terms = here.terms; size = here.size; depth = here.depth };
     }
 
-pub definition_passed : (known : Tables) (given : List (Step × Tree Row)) (all rest : Entries) (t : List ℕ) (from : ℕ) (chain : List Label) (e : Expression)
+pub definition_passed : (known : TableBuilder) (given : List (Step × Tree Row)) (all rest : Entries) (t : List ℕ) (from : ℕ) (chain : List Label) (e : Expression)
     → Gathering known given all (entry (definition t from chain e) rest) → Gathering known given all rest
 definition_passed known given all rest t from chain e w =
     let here = w.others in
@@ -89,19 +89,19 @@ definition_passed known given all rest t from chain e w =
       others = record {
         right = here.right.1;
         used = here.used;
-        terms = (nil_both (terms ds (meaning ds) e) (terms_of_entries ds (meaning ds) rest) here.terms).1;
+        terms = (nil_both (terms ds (meaning_of_number ds) e) (terms_of_entries ds (meaning_of_number ds) rest) here.terms).1;
         size = here.size;
         depth = here.depth;
       };
     }
 
-pub nested_depth : (chain : List Label) (c : Core) → depth (nested chain c) ≡ depth c + length chain
+pub nested_depth : (chain : List Label) (c : Core) → depth (nest_in_labels chain c) ≡ depth c + length chain
 nested_depth chain c = ap (λ (t : Total). t.depth) (total_nested chain c [])
 
-nested_size : (chain : List Label) (c : Core) → size (nested chain c) ≡ size c + 2 * length chain
+nested_size : (chain : List Label) (c : Core) → size (nest_in_labels chain c) ≡ size c + 2 * length chain
 nested_size chain c = ap (λ (t : Total). t.size) (total_nested chain c [])
 
-pub field_ready : (known : Tables) (given : List (Step × Tree Row)) (all rest : Entries) (l : Label) (chain : List Label) (e : Expression) → Gathering known given all (entry (field l chain e) rest) → IsReady known e
+pub field_ready : (known : TableBuilder) (given : List (Step × Tree Row)) (all rest : Entries) (l : Label) (chain : List Label) (e : Expression) → Gathering known given all (entry (field l chain e) rest) → IsReady known e
 field_ready known given all rest l chain e w =
     let here = w.others in
     let ds = all_definitions known in
@@ -112,21 +112,21 @@ field_ready known given all rest l chain e w =
     let deeper = nested_depth chain c in record {
       right = here.right.0;
       used = known_left known (uses ds e) (uses_of_fields ds rest) here.used;
-      terms = (nil_both (terms ds (meaning ds) e) (terms_of_entries ds (meaning ds) rest) here.terms).0;
+      terms = (nil_both (terms ds (meaning_of_number ds) e) (terms_of_entries ds (meaning_of_number ds) rest) here.terms).0;
       size = omega arith;
       depth = omega arith;
     }
 
-pub field_within : (known : Tables) (given : List (Step × Tree Row)) (all rest : Entries) (l : Label) (chain : List Label) (e : Expression) → Gathering known given all (entry (field l chain e) rest)
-    → depth (nested chain (core_of known.pairs e)) < step_limit
+pub field_within : (known : TableBuilder) (given : List (Step × Tree Row)) (all rest : Entries) (l : Label) (chain : List Label) (e : Expression) → Gathering known given all (entry (field l chain e) rest)
+    → depth (nest_in_labels chain (core_of known.pairs e)) < step_limit
 field_within known given all rest l chain e w = let d = w.others.depth in omega arith
 
-past_field : (known : Tables) (given : List (Step × Tree Row)) (all rest : Entries) (l : Label) (chain : List Label) (e : Expression) (one : Step × Tree Row)
-    → Gathering known given all (entry (field l chain e) rest) → IsField l (nested chain (core_of known.pairs e)) one → (step : paths.Step) (path : Path) (question : Question)
+past_field : (known : TableBuilder) (given : List (Step × Tree Row)) (all rest : Entries) (l : Label) (chain : List Label) (e : Expression) (one : Step × Tree Row)
+    → Gathering known given all (entry (field l chain e) rest) → IsField l (nest_in_labels chain (core_of known.pairs e)) one → (step : paths.Step) (path : Path) (question : Question)
     → (GivenRefuse (given ++ one ∷ []) step path question ⊎ AtLabels (members_of known rest) step path question) ↔ AtLabels (members_of known all) step path question
 past_field known given all rest l chain e one w f (label k) path question =
     let h = w.refused (label k) path question in
-    let push = one_of-push (λ (o : Step × Tree Row). (step_of o.0 ≡ label k) × Answers o.1 path question) given one in
+    let push = one_of-push (λ (o : Step × Tree Row). (step_of o.0 ≡ label k) × TreeRefusals o.1 path question) given one in
     let a = f.answers path question in
     let at = f.step in (
       λ x. ⊎_elim
@@ -139,14 +139,14 @@ past_field known given all rest l chain e one w f (label k) path question =
     )
 past_field known given all rest l chain e one w f (index i) path question =
     let h = w.refused (index i) path question in
-    let push = one_of-push (λ (o : Step × Tree Row). (step_of o.0 ≡ index i) × Answers o.1 path question) given one in
+    let push = one_of-push (λ (o : Step × Tree Row). (step_of o.0 ≡ index i) × TreeRefusals o.1 path question) given one in
     let at = f.step in (
       λ x. ⊎_elim (λ g. ⊎_elim (λ y. h.0 (inl y)) (λ y. let there = y.0 in absurd (cc)) (push.0 g)) (λ g. absurd g) x,
       λ x. absurd x,
     )
 
-pub field_gathered : (known : Tables) (given : List (Step × Tree Row)) (all rest : Entries) (l : Label) (chain : List Label) (e : Expression) (one : Step × Tree Row)
-    → Gathering known given all (entry (field l chain e) rest) → IsField l (nested chain (core_of known.pairs e)) one → Gathering known (given ++ one ∷ []) all rest
+pub field_gathered : (known : TableBuilder) (given : List (Step × Tree Row)) (all rest : Entries) (l : Label) (chain : List Label) (e : Expression) (one : Step × Tree Row)
+    → Gathering known given all (entry (field l chain e) rest) → IsField l (nest_in_labels chain (core_of known.pairs e)) one → Gathering known (given ++ one ∷ []) all rest
 field_gathered known given all rest l chain e one w f =
     let here = w.others in
     let ds = all_definitions known in
@@ -157,17 +157,17 @@ field_gathered known given all rest l chain e one w f =
       others = record {
         right = here.right.1;
         used = known_right known (uses ds e) (uses_of_fields ds rest) here.used;
-        terms = (nil_both (terms ds (meaning ds) e) (terms_of_entries ds (meaning ds) rest) here.terms).1;
+        terms = (nil_both (terms ds (meaning_of_number ds) e) (terms_of_entries ds (meaning_of_number ds) rest) here.terms).1;
         size = omega arith;
         depth = omega arith;
       };
     }
 
-none_left : (step : paths.Step) (path : Path) (question : Question) (known : Tables) → AtLabels (members_of known no_entries) step path question → ⊥
+none_left : (step : paths.Step) (path : Path) (question : Question) (known : TableBuilder) → AtLabels (members_of known no_entries) step path question → ⊥
 none_left (label l) path question known h = h
 none_left (index i) path question known h = h
 
-pub fields_gathered : (known : Tables) (given : List (Step × Tree Row)) (all left : Entries) → Gathering known given all left → left ≡ no_entries → AreGiven (AtLabels (members_of known all)) given
+pub fields_gathered : (known : TableBuilder) (given : List (Step × Tree Row)) (all left : Entries) → Gathering known given all left → left ≡ no_entries → AreGiven (AtLabels (members_of known all)) given
 fields_gathered known given all left w is =
     let here = subst (λ z. Gathering known given all z) is w in record {
       refused = λ step path question.
@@ -177,8 +177,8 @@ fields_gathered known given all left w is =
     }
 
 -- a field that is made of the table of what its chain of labels and its value mean
-pub field_made : (l : Label) (c : Core) (step : Step) (inner made : Tree Row) → step ≡ steps.Label (text_of l.name) → depth c < step_limit → IsTable Refuses IsRow inner → HasAnswersOf c inner
-    → IsTable Refuses IsRow made → SameAnswers (Answers made) (λ path question. Here (MarkRefuses l.mark) path question ⊎ Answers inner path question) → IsField l c (step, made)
+pub field_made : (l : Label) (c : Core) (step : Step) (inner made : Tree Row) → step ≡ steps.Label (text_of l.name) → depth c < step_limit → IsTable RefusesAsked IsRow inner → HasAnswersOf c inner
+    → IsTable RefusesAsked IsRow made → SameAnswers (TreeRefusals made) (λ path question. IsAtPlace (MarkRefuses l.mark) path question ⊎ TreeRefusals inner path question) → IsField l c (step, made)
 field_made l c step inner made is less inner_form same form marked =
     let at = within_depth c inner inner_form same in
     let no_deeper = marked_depth inner made l.mark form marked in record {

@@ -16,8 +16,8 @@ use Rattle.cue_syntax.specs.Syntax as tree
 use Rattle.cue_syntax.specs.Syntax.{Expression, Elements, no_elements, element, branch, Branches, no_branches, next_branch, ellipsis, field, definition, Entries, no_entries, entry}
 use Rattle.cue_syntax.specs.Words.{HasWordLabel, HasWords, HaveWords, HasWordsRest, HaveWordsBranches, HaveWordsEntries}
 use Rattle.cue_scope.specs.Core.{Core, null, truth, named, bottom, top}
-use Rattle.cue_scope.specs.Definitions.{Definition, definitions, number_of}
-use Rattle.cue_scope.specs.Meaning.{text_of, nested, meant_name, meant, meant_elements, meant_rest, meant_branches, meant_members, meant_use, meaning_within, meaning, meant_fields}
+use Rattle.cue_scope.specs.Definitions.{Definition, definitions, number_of_name}
+use Rattle.cue_scope.specs.Meaning.{text_of, nest_in_labels, meant_name, meant, meant_elements, meant_rest, meant_branches, meant_members, meant_use, meaning_within, meaning_of_number, meant_fields}
 use Rattle.cue_scope.specs.Named.{named_of}
 use Rattle.cue_scope.specs.declared.named.Named.{Named}
 use Rattle.cue_eval.specs.Words.{words, words_of_cores, words_of_elements, words_of_choices, words_of_members, WritesWords}
@@ -35,9 +35,9 @@ name_word : (name : LabelName) (mark : Mark) → HasWordLabel (record { name = n
 name_word (names.Plain t) mark h = word t h
 name_word (names.Quoted t) mark h = word t h
 
-nested_words : (chain : List Label) (c : Core) → AllByRecursion HasWordLabel chain → WritesWords c → WritesWords (nested chain c)
+nested_words : (chain : List Label) (c : Core) → AllByRecursion HasWordLabel chain → WritesWords c → WritesWords (nest_in_labels chain c)
 nested_words [] c h w = w
-nested_words (l ∷ ls) c h w = (name_word l.name l.mark h.0, both_words (words (nested ls c)) [] (nested_words ls c h.1 w) tt)
+nested_words (l ∷ ls) c h w = (name_word l.name l.mark h.0, both_words (words (nest_in_labels ls c)) [] (nested_words ls c h.1 w) tt)
 
 if_words : (b : Bool) (c d : Core) → WritesWords c → WritesWords d → WritesWords (cond b c d)
 if_words true c d v w = v
@@ -56,7 +56,7 @@ name_words ds f (identifiers.Plain t) h =
     if_words (bytes_eq t (codes "true")) (truth true) _ tt
     (if_words (bytes_eq t (codes "false")) (truth false) _ tt
     (if_words (bytes_eq t (codes "null")) null (option_map_or named (named_of t) bottom) tt (named_words (named_of t))))
-name_words ds f (identifiers.Definition t) h = used_words f (number_of t ds) h
+name_words ds f (identifiers.Definition t) h = used_words f (number_of_name t ds) h
 name_words ds f (identifiers.Hidden t) h = if_words (bytes_eq t (codes "_")) top bottom tt tt
 
 -- where definitions mean what writes words
@@ -98,7 +98,7 @@ mutual
   member_words ds f (entry ellipsis es) h w = member_words ds f es h w.1
   member_words ds f (entry (field l chain e) es) h w = (
     name_word l.name l.mark w.0.0,
-    both_words (words (nested chain (meant ds f e))) (words_of_members (meant_members ds f es))
+    both_words (words (nest_in_labels chain (meant ds f e))) (words_of_members (meant_members ds f es))
         (nested_words chain (meant ds f e) w.0.1 (meant_words ds f e h w.0.2)) (member_words ds f es h w.1),
   )
   member_words ds f (entry (definition t place chain e) es) h w = member_words ds f es h w.1
@@ -127,11 +127,11 @@ field_words : (ds : List Definition) (f : ℕ → Core) (es : Entries) → ((i :
 field_words ds f no_entries h w = tt
 field_words ds f (entry (field l chain e) es) h w = (
   name_word l.name l.mark w.0.0,
-  both_words (words (nested chain (meant ds f e))) (words_of_members (meant_fields ds f es))
+  both_words (words (nest_in_labels chain (meant ds f e))) (words_of_members (meant_fields ds f es))
       (nested_words chain (meant ds f e) w.0.1 (meant_words ds f e h w.0.2)) (field_words ds f es h w.1),
 )
 field_words ds f (entry ellipsis es) h w = field_words ds f es h w.1
 field_words ds f (entry (definition t place chain e) es) h w = field_words ds f es h w.1
 
 pub texts_write_words : TextsWriteWords
-texts_write_words es w = field_words (definitions es) (meaning (definitions es)) es (λ i. words_within (length (definitions es)) (definitions es) i (definition_words es w)) w
+texts_write_words es w = field_words (definitions es) (meaning_of_number (definitions es)) es (λ i. words_within (length (definitions es)) (definitions es) i (definition_words es w)) w

@@ -9,8 +9,8 @@ use Rattle.cue_lattice.specs.Path.{Path}
 use Rattle.cue_lattice.specs.Question.{allows}
 use Rattle.cue_syntax.specs.declared.tree.Mark.{Mark}
 use Rattle.cue_scope.specs.Core.{Members}
-use Rattle.cue_eval.specs.Literals.{declares, has_dots, LeaveOut}
-use Rattle.cue_eval.specs.Places.{Here, MarkRefuses}
+use Rattle.cue_eval.specs.Literals.{has_declaration, has_dots, LeaveOut}
+use Rattle.cue_eval.specs.Places.{IsAtPlace, MarkRefuses}
 
 pub some_left : {X : Type 0} (xs ys : List X) → xs ≢ [] → xs ++ ys ≢ []
 some_left [] ys h e = h refl
@@ -32,14 +32,14 @@ pub left_out_left : (xs ys : List Members) (l : List ℕ) → xs ≢ [] → Leav
 left_out_left xs ys l h out = record {
   some = h;
   without_dots = (any_false has_dots xs ys out.without_dots).0;
-  undeclared = (any_false (declares l) xs ys out.undeclared).0;
+  undeclared = (any_false (has_declaration l) xs ys out.undeclared).0;
 }
 
 pub left_out_right : (xs ys : List Members) (l : List ℕ) → ys ≢ [] → LeaveOut (xs ++ ys) l → LeaveOut ys l
 left_out_right xs ys l h out = record {
   some = h;
   without_dots = (any_false has_dots xs ys out.without_dots).1;
-  undeclared = (any_false (declares l) xs ys out.undeclared).1;
+  undeclared = (any_false (has_declaration l) xs ys out.undeclared).1;
 }
 
 -- what all leave out, the first or the others do
@@ -48,7 +48,7 @@ left_out_by_one [] ys l out = inr out
 left_out_by_one (x ∷ xs) ys l out = inl (left_out_left (x ∷ xs) ys l (λ e. cc) out)
 
 -- a mark refuses no label
-pub mark_refuses_no_label : (mark : Mark) (path : Path) (k : List ℕ) → Here (MarkRefuses mark) path (allows k) → ⊥
+pub mark_refuses_no_label : (mark : Mark) (path : Path) (k : List ℕ) → IsAtPlace (MarkRefuses mark) path (allows k) → ⊥
 mark_refuses_no_label mark [] k h = h
 mark_refuses_no_label mark (step ∷ path) k h = h
 

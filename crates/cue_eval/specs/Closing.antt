@@ -7,7 +7,7 @@ use Rattle.cue_lattice.specs.Question.{allows}
 use Rattle.cue_scope.specs.Core.{Core, conjunction, struct, close, list, closed, Cores, no_cores}
 use Rattle.cue_scope.specs.Core.{core, Elements, ends, goes_on, each, element, Members}
 use Rattle.cue_scope.specs.Core.{no_members, member, dots}
-use Rattle.cue_eval.specs.Literals.{literals, declares, has_dots, LeaveOut}
+use Rattle.cue_eval.specs.Literals.{literals, has_declaration, has_dots, LeaveOut}
 use Rattle.cue_eval.specs.Refuses.{Refuses}
 
 -- at the place of a struct literal, or below it
@@ -70,7 +70,7 @@ pub record LeaveOutOwn (c : Core) (path : Path) (l : List ℕ) : Type 0 where
   pub some : OneOfOwn any_literal c path
   pub without_dots : ¬ OneOfOwn has_dots c path
   pub used_without_dots : ¬ OneOfUsed has_dots c path
-  pub undeclared : ¬ OneOfOwn (declares l) c path
+  pub undeclared : ¬ OneOfOwn (has_declaration l) c path
 
 -- The struct literals at a path are those that the expression writes itself, and those in
 -- definitions that it names.

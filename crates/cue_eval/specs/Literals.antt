@@ -10,10 +10,10 @@ use Rattle.cue_scope.specs.Core.{core, Elements, ends, goes_on, each, element, M
 use Rattle.cue_scope.specs.Core.{no_members, member, dots}
 
 -- it has a declaration of this label, with any mark
-abbrev pub declares : List ℕ → Members → Bool
-declares l no_members = false
-declares l (member k mark c ms) = bytes_eq k l || declares l ms
-declares l (dots ms) = declares l ms
+abbrev pub has_declaration : List ℕ → Members → Bool
+has_declaration l no_members = false
+has_declaration l (member k mark c ms) = bytes_eq k l || has_declaration l ms
+has_declaration l (dots ms) = has_declaration l ms
 
 -- it has a `...`
 abbrev pub has_dots : Members → Bool
@@ -66,4 +66,4 @@ abbrev mutual
 pub record LeaveOut (written : List Members) (l : List ℕ) : Type 0 where
   pub some : written ≢ []
   pub without_dots : list_any has_dots written ≡ false
-  pub undeclared : list_any (declares l) written ≡ false
+  pub undeclared : list_any (has_declaration l) written ≡ false

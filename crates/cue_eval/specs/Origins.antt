@@ -15,15 +15,15 @@ use Rattle.cue_eval.specs.Places.{ScalarRefuses, StructRefuses, ListRefuses, Mar
 use Rattle.cue_eval.specs.Places.{ClosingRefuses}
 use Rattle.cue_eval.specs.Refuses.{Refuses}
 
-pub data Source : Type 0 where
-  scalar : Core → Source
-  a_struct : Source
-  a_list : ℕ → Bool → Source
-  mark : Mark → Source
+pub data LiteralSource : Type 0 where
+  scalar : Core → LiteralSource
+  a_struct : LiteralSource
+  a_list : ℕ → Bool → LiteralSource
+  mark : Mark → LiteralSource
   -- struct literals that are closed
-  closing : List Members → Source
+  closing : List Members → LiteralSource
 
-abbrev pub SourceRefuses : Source → Question → Type 0
+abbrev pub SourceRefuses : LiteralSource → Question → Type 0
 SourceRefuses (scalar c) question = ScalarRefuses (pair c) question
 SourceRefuses a_struct question = StructRefuses question
 SourceRefuses (a_list count goes_on) question = ListRefuses count goes_on question
@@ -32,7 +32,7 @@ SourceRefuses (closing written) question = ClosingRefuses written question ⊎ S
 
 -- the question is refused by a source, all of whose refusals hold
 pub record HasOrigin (refuses : Question → Type 0) (question : Question) : Type 0 where
-  pub source : Source
+  pub source : LiteralSource
   pub asked : SourceRefuses source question
   pub all : (other : Question) → SourceRefuses source other → refuses other
 
@@ -45,8 +45,8 @@ ComesFromSources =
 abbrev pub IsStruct : (Question → Type 0) → Type 0
 IsStruct refuses = (question : Question) → StructRefuses question → refuses question
 
-abbrev pub IsList : (Question → Type 0) → ℕ → Bool → Type 0
-IsList refuses count goes_on =
+abbrev pub IsListOrigin : (Question → Type 0) → ℕ → Bool → Type 0
+IsListOrigin refuses count goes_on =
     (question : Question) → ListRefuses count goes_on question → refuses question
 
 -- labels are left out where nothing but a struct may stand
@@ -59,9 +59,9 @@ LabelsAreOfStructs =
 abbrev pub LengthsAreOfLists : Type 0
 LengthsAreOfLists =
     ((c : Core) (path : Path) (n : ℕ) → Refuses c path (length_at_most n)
-    → (count : ℕ) × (goes_on : Bool) × (n < count) × IsList (Refuses c path) count goes_on)
+    → (count : ℕ) × (goes_on : Bool) × (n < count) × IsListOrigin (Refuses c path) count goes_on)
     × ((c : Core) (path : Path) (n : ℕ) → Refuses c path (length_at_least n)
-    → (count : ℕ) × (count < n) × IsList (Refuses c path) count false)
+    → (count : ℕ) × (count < n) × IsListOrigin (Refuses c path) count false)
 
 -- fields stand below structs, and elements below lists that are long enough or go on
 abbrev pub FieldsAreOfStructs : Type 0
@@ -72,7 +72,7 @@ abbrev pub ElementsAreOfLists : Type 0
 ElementsAreOfLists = (c : Core) (path : Path) (i : ℕ) (rest : Path) (question : Question) →
     Refuses c (path ++ index i ∷ rest) question
     → (count : ℕ) × (goes_on : Bool) × ((i < count) ⊎ (goes_on ≡ true))
-    × IsList (Refuses c path) count goes_on
+    × IsListOrigin (Refuses c path) count goes_on
 
 -- elements that no list at their place writes one by one are alike: their indexes are lengths that
 -- are not too small
@@ -104,15 +104,15 @@ abbrev pub UsualIsWithin : Type 0
 UsualIsWithin =
     (c : Core) (path : Path) (x : Scalar) → Refuses c path (may_be x) → Refuses c path (usual x)
 
-abbrev pub IsLevel : Question → Type 0
-IsLevel (level_at_most k) = Unit {0}
-IsLevel _ = ⊥
+abbrev pub IsLevelOrigin : Question → Type 0
+IsLevelOrigin (level_at_most k) = Unit {0}
+IsLevelOrigin _ = ⊥
 
 -- Where anything but a level is refused, nothing but scalars, nothing but a struct or nothing but a
 -- list may stand.
 abbrev pub PlacesAreOfKinds : Type 0
 PlacesAreOfKinds = (c : Core) (path : Path) (question : Question) → Refuses c path question →
-    IsLevel question
+    IsLevelOrigin question
     ⊎ ((Refuses c path questions.struct × Refuses c path questions.list)
     ⊎ (IsStruct (Refuses c path)
-    ⊎ ((count : ℕ) × (goes_on : Bool) × IsList (Refuses c path) count goes_on)))
+    ⊎ ((count : ℕ) × (goes_on : Bool) × IsListOrigin (Refuses c path) count goes_on)))

@@ -5,22 +5,22 @@ use Rattle.cue_lattice.specs.Question as questions
 use Rattle.cue_lattice.specs.Question.{Question, may_be, usual, allows, level_at_most}
 use Rattle.cue_lattice.specs.Question.{length_at_most, length_at_least}
 use Rattle.cue_lattice.specs.Scalar.{IsScalar}
-use Rattle.cue_scalars.specs.Pairs.{Pair, brought}
+use Rattle.cue_scalars.specs.Pairs.{ScalarPair, default_or_value}
 use Rattle.cue_syntax.specs.declared.tree.Mark.{Mark}
 use Rattle.cue_syntax.specs.declared.tree.Mark.TheVariants.{Regular, Optional, Required}
 use Rattle.cue_scope.specs.Core.{Members}
 use Rattle.cue_eval.specs.Literals.{LeaveOut}
 
 -- at the place itself, and nothing below it
-abbrev pub Here : (Question → Type 0) → Path → Question → Type 0
-Here refuses [] question = refuses question
-Here refuses (step ∷ path) question = ⊥
+abbrev pub IsAtPlace : (Question → Type 0) → Path → Question → Type 0
+IsAtPlace refuses [] question = refuses question
+IsAtPlace refuses (step ∷ path) question = ⊥
 
 -- where scalars stand: every scalar but those of the value, as usual all but those of the default
 -- (of the value where there is none), and that a struct or a list stands
-abbrev pub ScalarRefuses : Pair → Question → Type 0
+abbrev pub ScalarRefuses : ScalarPair → Question → Type 0
 ScalarRefuses pair (may_be scalar) = IsScalar scalar × (pair.value scalar ≡ false)
-ScalarRefuses pair (usual scalar) = IsScalar scalar × (brought pair scalar ≡ false)
+ScalarRefuses pair (usual scalar) = IsScalar scalar × (default_or_value pair scalar ≡ false)
 ScalarRefuses pair questions.struct = Unit {0}
 ScalarRefuses pair questions.list = Unit {0}
 ScalarRefuses pair _ = ⊥

@@ -7,7 +7,7 @@ use Rattle.cue_scope.specs.Core.{no_cores, core, Elements, ends, goes_on, each, 
 use Rattle.cue_scope.specs.Core.{Members, no_members, member, dots}
 use Rattle.cue_eval.specs.Pairs.{pair}
 use Rattle.cue_eval.specs.Literals.{literals}
-use Rattle.cue_eval.specs.Places.{Here, ScalarRefuses, StructRefuses, ListRefuses, MarkRefuses}
+use Rattle.cue_eval.specs.Places.{IsAtPlace, ScalarRefuses, StructRefuses, ListRefuses, MarkRefuses}
 use Rattle.cue_eval.specs.Places.{ClosingRefuses}
 
 -- a struct literal, of whose fields it is told what they refuse
@@ -24,18 +24,18 @@ ElementsRefuse here elements (label l ∷ path) question = ⊥
 ElementsRefuse here elements (index i ∷ path) question = elements i path question
 
 -- how many elements a list writes one by one
-abbrev pub count : Elements → ℕ
-count ends = 0
-count goes_on = 0
-count (each c) = 0
-count (element c es) = count es + 1
+abbrev pub count_of_elements : Elements → ℕ
+count_of_elements ends = 0
+count_of_elements goes_on = 0
+count_of_elements (each c) = 0
+count_of_elements (element c es) = count_of_elements es + 1
 
 -- it goes on behind them
-abbrev pub is_open : Elements → Bool
-is_open ends = false
-is_open goes_on = true
-is_open (each c) = true
-is_open (element c es) = is_open es
+abbrev pub is_open_list : Elements → Bool
+is_open_list ends = false
+is_open_list goes_on = true
+is_open_list (each c) = true
+is_open_list (element c es) = is_open_list es
 
 abbrev mutual
   pub Refuses : Core → Path → Question → Type 0
@@ -43,15 +43,15 @@ abbrev mutual
   Refuses (conjunction cs) path question = PartsRefuse cs path question
   Refuses (struct ms) path question = LiteralRefuses (FieldRefuses ms) path question
   Refuses (list es) path question =
-      ElementsRefuse (ListRefuses (count es) (is_open es)) (ElementRefuses es) path question
+      ElementsRefuse (ListRefuses (count_of_elements es) (is_open_list es)) (ElementRefuses es) path question
   -- `close` closes its own place alone
   Refuses (close ms) path question =
-      LiteralRefuses (FieldRefuses ms) path question ⊎ Here (ClosingRefuses (ms ∷ [])) path question
+      LiteralRefuses (FieldRefuses ms) path question ⊎ IsAtPlace (ClosingRefuses (ms ∷ [])) path question
   -- a definition is closed wherever its body writes a struct
   Refuses (closed c) path question =
       Refuses c path question ⊎ ClosingRefuses (literals c path) question
   -- all else is scalar
-  Refuses c path question = Here (ScalarRefuses (pair c)) path question
+  Refuses c path question = IsAtPlace (ScalarRefuses (pair c)) path question
 
   -- `a & b` refuses what a or b refuses
   pub PartsRefuse : Cores → Path → Question → Type 0
@@ -62,7 +62,7 @@ abbrev mutual
   pub FieldRefuses : Members → List ℕ → Path → Question → Type 0
   FieldRefuses no_members l path question = ⊥
   FieldRefuses (member k mark c ms) l path question =
-      ((k ≡ l) × (Here (MarkRefuses mark) path question ⊎ Refuses c path question))
+      ((k ≡ l) × (IsAtPlace (MarkRefuses mark) path question ⊎ Refuses c path question))
       ⊎ FieldRefuses ms l path question
   FieldRefuses (dots ms) l path question = FieldRefuses ms l path question
 

@@ -5,5 +5,5 @@ use Rattle.cue_scope.specs.Meaning.{meant_text}
 use Rattle.cue_eval.specs.Refuses.{Refuses}
 
 -- what the struct of its regular declarations refuses
-abbrev pub text_refuses : Entries → Refusals
-text_refuses es = Refuses (meant_text es)
+abbrev pub meaning_refuses : Entries → Refusals
+meaning_refuses es = Refuses (meant_text es)

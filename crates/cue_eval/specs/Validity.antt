@@ -16,14 +16,14 @@ use Rattle.cue_syntax.specs.Words.{HaveWordsEntries}
 use Rattle.cue_scope.specs.Core.{Core}
 use Rattle.cue_scope.specs.Limits.{size}
 use Rattle.cue_scope.specs.Meaning.{meant_text}
-use Rattle.cue_scope.specs.Refusing.{IsLegal}
+use Rattle.cue_scope.specs.Refusing.{IsLegalTree}
 use Rattle.cue_eval.specs.Refuses.{Refuses}
 use Rattle.cue_eval.specs.Evaluated.{HasAnswersOf}
 use Rattle.cue_eval.specs.Words.{words, WritesWords}
 
 -- no text of these
-abbrev pub IsUnwritten : Core → List ℕ → Type 0
-IsUnwritten c t = is_listed (words c) t ≡ false
+abbrev pub IsUnwrittenLabel : Core → List ℕ → Type 0
+IsUnwrittenLabel c t = is_listed (words c) t ≡ false
 
 -- the labels on the paths of what is refused are written
 abbrev pub PathsAreWritten : Type 0
@@ -34,13 +34,13 @@ PathsAreWritten =
 -- where one label is left out, each one is that isn't written
 abbrev pub UnwrittenLabelsAreAlike : Type 0
 UnwrittenLabelsAreAlike =
-    (c : Core) (path : Path) (k l : List ℕ) → IsUnwritten c l → Refuses c path (allows k)
+    (c : Core) (path : Path) (k l : List ℕ) → IsUnwrittenLabel c l → Refuses c path (allows k)
     → Refuses c path (allows l)
 
 -- of the texts that aren't written, all may stand or none may, and all are usual or none is
 abbrev pub UnwrittenTextsAreAlike : Type 0
 UnwrittenTextsAreAlike =
-    (c : Core) (path : Path) (t u : List ℕ) → IsUnwritten c t → IsUnwritten c u →
+    (c : Core) (path : Path) (t u : List ℕ) → IsUnwrittenLabel c t → IsUnwrittenLabel c u →
     (Refuses c path (may_be (Text t)) → Refuses c path (may_be (Text u)))
     × (Refuses c path (usual (Text t)) → Refuses c path (usual (Text u)))
 
@@ -52,8 +52,8 @@ LengthsAreWithinSize =
 -- A table in its one form, with the answers of a legal text that writes words, is valid.
 abbrev pub TextsAreValid : Type 0
 TextsAreValid =
-    (es : Entries) (table : Tree Row) → IsLegal es → WritesWords (meant_text es)
-    → IsTable rows.Refuses rows.IsRow table →
+    (es : Entries) (table : Tree Row) → IsLegalTree es → WritesWords (meant_text es)
+    → IsTable rows.RefusesAsked rows.IsRow table →
     HasAnswersOf (meant_text es) table → IsValidTable table
 
 -- A text whose names, labels and strings are words means what writes words.

@@ -4,7 +4,7 @@ use std::alloc::Global;
 
 /// What the struct literals at a place can be asked.
 #[derive(Debug, Drop)]
-pub enum Asked {
+pub enum DeclaredQuestion {
     /// Does one stand there?
     Stands,
     /// Does one declare this label? One with `...` declares each.
@@ -23,14 +23,14 @@ pub struct Declared {
 /// Unification unites: what one side tells is told. So "to refuse" a question is here to say yes to
 /// it.
 impl Narrow for Declared {
-    ghost use Rattle.cue_eval.specs.Telling.{Tells, IsDeclared};
+    ghost use Rattle.cue_eval.specs.Telling.{DeclaredRefuses, IsDeclaredLabel};
     ghost use Rattle.cue_eval.specs.TellingLaws.{same_declared};
 
-    type Question = Asked;
+    type Question = DeclaredQuestion;
 
-    ghost refuses = { Tells };
+    ghost refuses = { DeclaredRefuses };
 
-    ghost is_value = { IsDeclared };
+    ghost is_value = { IsDeclaredLabel };
 
     ghost exact = { same_declared };
 

@@ -4,7 +4,7 @@ ghost use Rattle.cue_scope.specs.Files.{entries_of};
 ghost use Rattle.cue_scope.specs.Meaning.{meant_text};
 ghost use Rattle.cue_eval.specs.Evaluated.{IsEvaluated};
 
-use crate::found::Found;
+use crate::definitions::EvaluatedDefinitions;
 use cue_lattice::Memory;
 use cue_row::Row;
 use cue_scope::Resolved;
@@ -23,7 +23,7 @@ pub fn evaluate(alloc: Global, resolved: &Resolved) -> Result<Table<Row>, Memory
     let declarations = resolved.declarations();
     let definitions = resolved.definitions();
     let order = resolved.order();
-    let mut found = Found::none(alloc, resolved)?;
+    let mut found = EvaluatedDefinitions::none(alloc, resolved)?;
     for number in order {
         let definition = &definitions.all()[*number];
         let is_scalar = resolved.is_scalar(*number);

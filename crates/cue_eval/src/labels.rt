@@ -6,26 +6,26 @@ ghost use Rattle.cue_scope.specs.Core.{Core};
 ghost use Rattle.cue_scope.specs.Definitions.{Definition};
 ghost use Rattle.cue_scope.specs.Meaning.{meant_members};
 ghost use Rattle.cue_syntax.specs.Syntax.{entries, entry, no_entries, entry_tree};
-ghost use Rattle.cue_eval.specs.Literals.{declares, has_dots, LeaveOut};
+ghost use Rattle.cue_eval.specs.Literals.{has_declaration, has_dots, LeaveOut};
 
 use cue_lattice::Memory;
-use cue_row::Labels;
+use cue_row::LabelSet;
 use cue_sets::TextSet;
 use cue_syntax::{Declaration, LabelName};
 use std::alloc::Global;
 
 /// The labels that may stand in a struct literal of these declarations alone where it is closed:
 /// those that it declares, or all where it has `...`.
-pub(crate) fn labels_of(alloc: Global, declarations: &[Declaration]) -> Result<Labels, Memory>
+pub(crate) fn labels_of(alloc: Global, declarations: &[Declaration]) -> Result<LabelSet, Memory>
     ensures { IfOk result (λ labels. (ds : List Definition) (meaning : ℕ → Core) (l : List ℕ) →
         RefusesLabel labels l ↔ LeaveOut (meant_members ds meaning (entries declarations.now) ∷ [])
         l) }
 {
     if has_ellipsis(declarations) {
-        return Ok(Labels::all(alloc));
+        return Ok(LabelSet::all(alloc));
     }
-    let (_, labels) = declared(alloc, declarations)?.into_texts();
-    Ok(Labels::listing(labels).unwrap())
+    let (_, labels) = collect_labels(alloc, declarations)?.into_texts();
+    Ok(LabelSet::listing(labels).unwrap())
 }
 
 /// Whether there is a `...` among the declarations.
@@ -44,9 +44,9 @@ pub(crate) fn has_ellipsis(declarations: &[Declaration]) -> bool
 }
 
 /// The labels that are declared. The declarations are halved, so that many are united in balance.
-pub(crate) fn declared(alloc: Global, declarations: &[Declaration]) -> Result<TextSet, Memory>
+pub(crate) fn collect_labels(alloc: Global, declarations: &[Declaration]) -> Result<TextSet, Memory>
     ensures { IfOk result (λ set. (ds : List Definition) (meaning : ℕ → Core) (l : List ℕ) →
-        is_text_member set l ≡ declares l (meant_members ds meaning (entries declarations.now))) }
+        is_text_member set l ≡ has_declaration l (meant_members ds meaning (entries declarations.now))) }
 {
     let count = declarations.len();
     if count == 0 {
@@ -56,15 +56,15 @@ pub(crate) fn declared(alloc: Global, declarations: &[Declaration]) -> Result<Te
         return declared_by(alloc, &declarations[0]);
     }
     let (front, back) = declarations.split_at(count / 2);
-    let left = declared(alloc, front)?;
-    let right = declared(alloc, back)?;
+    let left = collect_labels(alloc, front)?;
+    let right = collect_labels(alloc, back)?;
     left.union(alloc, &right)
 }
 
 /// The label that a declaration has.
 fn declared_by(alloc: Global, declaration: &Declaration) -> Result<TextSet, Memory>
     ensures { IfOk result (λ set. (ds : List Definition) (meaning : ℕ → Core) (l : List ℕ) →
-        is_text_member set l ≡ declares l (meant_members ds meaning
+        is_text_member set l ≡ has_declaration l (meant_members ds meaning
         (entry (entry_tree declaration.now) no_entries))) }
 {
     match declaration {

@@ -11,7 +11,7 @@ ghost use Rattle.cue_lattice.specs.Path as paths;
 ghost use Rattle.cue_lattice.specs.Path.{index};
 ghost use Rattle.cue_row.specs.LabelSets.{RefusesLabel};
 ghost use Rattle.cue_row.specs.Questions.{question_of};
-ghost use Rattle.cue_row.specs.Row.{Refuses, IsRow};
+ghost use Rattle.cue_row.specs.Row.{RefusesAsked, IsRow};
 ghost use Rattle.cue_row.specs.Steps.{step_of};
 ghost use Rattle.cue_row.specs.declared.question.Question.{Question as Questions};
 ghost use Rattle.cue_sets.specs.Texts.{is_text_member};
@@ -20,19 +20,19 @@ ghost use Rattle.cue_table.specs.Form.{IsTable};
 ghost use Rattle.cue_table.specs.Refuses.{TableRefuses, RowRefuses};
 ghost use Rattle.cue_table.specs.StepsOfCode.{span_of};
 ghost use Rattle.cue_table.specs.Tree.{step_into};
-ghost use Rattle.cue_eval.specs.Inner.Adding.{OnlyLabels, AllowsAll, AddsAt, AddsHere, IsStepInto};
+ghost use Rattle.cue_eval.specs.Inner.Adding.{OnlyLabels, AllowsAll, ClosingAddsAt, ClosingAddsHere, IsStepInto};
 ghost use Rattle.cue_eval.specs.Inner.Adding.{IsAddedBy, IsAllBelow, AreOwnLabels, AreAddedAt};
 ghost use Rattle.cue_eval.specs.Inner.Adding.{AreFields};
 ghost use Rattle.cue_eval.specs.Inner.Adding.{AreBounds, AreBoundsBelow, AreBoundsOf, AreFew};
 ghost use Rattle.cue_eval.specs.Inner.Adding.{AreKept};
 ghost use Rattle.cue_eval.specs.Inner.Adding.{AreStretches};
 ghost use Rattle.cue_eval.specs.Inner.Adding.{HasBoundsOf, IsSpanWithin, root_row, step_below};
-ghost use Rattle.cue_eval.specs.Telling.{Tells};
-ghost use Rattle.cue_eval.specs.declared.declared.Asked.TheVariants.{Stands};
+ghost use Rattle.cue_eval.specs.Telling.{DeclaredRefuses};
+ghost use Rattle.cue_eval.specs.declared.declared.DeclaredQuestion.TheVariants.{Stands};
 
 use crate::declared::Declared;
 use cue_lattice::{Memory, Narrow, Text};
-use cue_row::{Labels, Row, RowParts, Step};
+use cue_row::{LabelSet, Row, RowParts, Step};
 use cue_sets::TextSet;
 use cue_table::{Branch, Span, Table};
 use std::alloc::Global;
@@ -48,7 +48,7 @@ pub(crate) fn label_sets(
 ) -> Result<Table<Row>, Memory>
     ensures { IfOk result (IsAddedBy own.now dots.now rows.now) }
 {
-    let body = Place {
+    let body = ClosingPlace {
         own: own.root(),
         dots: Some(dots.root()),
         rows: Some(rows.root()),
@@ -58,7 +58,7 @@ pub(crate) fn label_sets(
 
 /// A place of a body at which a struct literal of its own may stand, or below.
 #[derive(Drop)]
-struct Place<'a> {
+struct ClosingPlace<'a> {
     /// What the body's own struct literals declare.
     own: Branch<'a, Declared>,
     /// Where one of all struct literals has a `...`.
@@ -67,15 +67,15 @@ struct Place<'a> {
     rows: Option<Branch<'a, Row>>,
 }
 
-impl<'a> Place<'a> {
+impl<'a> ClosingPlace<'a> {
     /// The label sets that are added here and below.
     #[cycle(sets)]
     fn label_sets(&self, alloc: Global) -> Result<Table<Row>, Memory>
         requires { tree_depth self.now.own ≤ step_limit }
-        ensures form { IfOk result (IsTable Refuses IsRow) }
+        ensures form { IfOk result (IsTable RefusesAsked IsRow) }
         ensures added { IfOk result (λ sets. (path : paths.Path) (question : Questions) →
-            TableRefuses Refuses sets path question
-            ↔ AddsAt self.now path (question_of question)) }
+            TableRefuses RefusesAsked sets path question
+            ↔ ClosingAddsAt self.now path (question_of question)) }
     {
         let steps = self.own_labels(alloc)?;
         let fields = self.fields(alloc, &steps)?;
@@ -92,7 +92,7 @@ impl<'a> Place<'a> {
     ) -> Result<Table<Row>, Memory>
         requires depth { tree_depth self.now.own ≤ step_limit }
         requires fields { AreFields self.now fields.items }
-        ensures form { IfOk result (IsTable Refuses IsRow) }
+        ensures form { IfOk result (IsTable RefusesAsked IsRow) }
         ensures all { IfOk result (IsAllBelow self.now) }
     {
         let stretches = self.stretches(alloc)?;
@@ -111,7 +111,7 @@ impl<'a> Place<'a> {
             All (λ one. tree_depth one.1 < step_limit) stretches.items) }
         ensures added { IfOk result (λ stretches. AreStretches self.now 0 stretches.items) }
     {
-        let mut bounds = self.bounds(alloc)?;
+        let mut bounds = self.stretch_starts(alloc)?;
         let mut stretches = Vec::new(alloc);
         let Some(last) = bounds.pop() else {
             // The bounds have 0.
@@ -134,8 +134,8 @@ impl<'a> Place<'a> {
         requires { tree_depth self.now.own ≤ step_limit }
         ensures depth { IfOk result (λ sets. tree_depth sets < step_limit) }
         ensures added { IfOk result (λ sets. (path : paths.Path) (question : Questions) →
-            TableRefuses Refuses sets path question
-            ↔ AddsAt self.now (index number ∷ path) (question_of question)) }
+            TableRefuses RefusesAsked sets path question
+            ↔ ClosingAddsAt self.now (index number ∷ path) (question_of question)) }
     {
         match self.item(number) {
             None => Ok(Table::new(alloc)),
@@ -148,10 +148,10 @@ impl<'a> Place<'a> {
 
     /// These, and what is added at the place itself.
     fn and_here(&self, alloc: Global, sets: Table<Row>) -> Result<Table<Row>, Memory>
-        ensures form { IfOk result (IsTable Refuses IsRow) }
+        ensures form { IfOk result (IsTable RefusesAsked IsRow) }
         ensures added { IfOk result (λ all. (path : paths.Path) (question : Questions) →
-            TableRefuses Refuses all path question ↔ (TableRefuses Refuses sets path question
-            ⊎ ((path ≡ []) × AddsHere self.now (question_of question)))) }
+            TableRefuses RefusesAsked all path question ↔ (TableRefuses RefusesAsked sets path question
+            ⊎ ((path ≡ []) × ClosingAddsHere self.now (question_of question)))) }
     {
         match self.row(alloc)? {
             None => Ok(sets),
@@ -171,7 +171,7 @@ impl<'a> Place<'a> {
     {
         let mut branches = Vec::new(alloc);
         for step in steps {
-            if let Some(place) = self.below(step) {
+            if let Some(place) = self.place_below(step) {
                 branches.push((step.copy(alloc)?, place.label_sets(alloc)?))?;
             }
         }
@@ -191,7 +191,7 @@ impl<'a> Place<'a> {
 
     /// The indexes at which other elements begin, with 0: between two of them closing adds the same
     /// in all elements, and so it does from the last one on.
-    fn bounds(&self, alloc: Global) -> Result<BinaryHeap<u64>, Memory>
+    fn stretch_starts(&self, alloc: Global) -> Result<BinaryHeap<u64>, Memory>
         ensures heap { IfOk result (λ bounds. IsHeap nat_cmp (heap_items bounds)) }
         ensures first { IfOk result (λ bounds. Contains (heap_items bounds) 0) }
         ensures few { IfOk result (λ bounds. AreFew (heap_items bounds)) }
@@ -209,11 +209,11 @@ impl<'a> Place<'a> {
     }
 
     /// The place one step below, where the body's own struct literals stand there or below.
-    fn below(&self, step: &Step) -> Option<Place<'a>>
+    fn place_below(&self, step: &Step) -> Option<ClosingPlace<'a>>
         ensures some { IfSome result (IsStepInto self.now (step_of step.now)) }
         ensures none { IfNone result (step_into self.now.own (step_of step.now) ≡ None) }
     {
-        Some(Place {
+        Some(ClosingPlace {
             own: self.own.find(step)?,
             dots: find(&self.dots, step),
             rows: find(&self.rows, step),
@@ -221,11 +221,11 @@ impl<'a> Place<'a> {
     }
 
     /// The place of an element, where the body's own struct literals stand there or below.
-    fn item(&self, number: u64) -> Option<Place<'a>>
+    fn item(&self, number: u64) -> Option<ClosingPlace<'a>>
         ensures some { IfSome result (IsStepInto self.now (index number)) }
         ensures none { IfNone result (step_into self.now.own (index number) ≡ None) }
     {
-        Some(Place {
+        Some(ClosingPlace {
             own: item(&self.own, number)?,
             dots: find_item(&self.dots, number),
             rows: find_item(&self.rows, number),
@@ -235,17 +235,17 @@ impl<'a> Place<'a> {
     /// What is added at the place itself.
     fn row(&self, alloc: Global) -> Result<Option<Row>, Memory>
         ensures { IfOk result (λ row. (question : Questions) →
-            RowRefuses Refuses row question ↔ AddsHere self.now (question_of question)) }
+            RowRefuses RefusesAsked row question ↔ ClosingAddsHere self.now (question_of question)) }
     {
         let Some(own) = self.own.row() else {
             return Ok(None);
         };
-        if !own.stands || stands(&self.dots) || !allows_all(&self.rows) {
+        if !own.stands || has_dots(&self.dots) || !allows_all(&self.rows) {
             return Ok(None);
         }
         match declared_labels(alloc, &own.undeclared)? {
             None => Ok(None),
-            Some(labels) => Ok(Some(only(alloc, labels)?)),
+            Some(labels) => Ok(Some(row_of_labels(alloc, labels)?)),
         }
     }
 }
@@ -353,8 +353,8 @@ fn push_bound(bounds: &mut BinaryHeap<u64>, index: u64) -> Result<(), Memory>
 }
 
 /// Whether a literal has a `...` at a place.
-fn stands(dots: &Option<Branch<Declared>>) -> bool
-    ensures { IsTrue result ↔ RowRefuses Tells (root_row dots.now) Stands }
+fn has_dots(dots: &Option<Branch<Declared>>) -> bool
+    ensures { IsTrue result ↔ RowRefuses DeclaredRefuses (root_row dots.now) Stands }
 {
     match dots {
         None => false,
@@ -379,9 +379,9 @@ fn allows_all(rows: &Option<Branch<Row>>) -> bool
 }
 
 /// The row that lets these labels stand alone, and refuses nothing else.
-fn only(alloc: Global, labels: Labels) -> Result<Row, Memory>
+fn row_of_labels(alloc: Global, labels: LabelSet) -> Result<Row, Memory>
     ensures { IfOk result (λ row. (question : Questions) →
-        Refuses row question ↔ OnlyLabels labels (question_of question)) }
+        RefusesAsked row question ↔ OnlyLabels labels (question_of question)) }
 {
     let parts = RowParts {
         labels,
@@ -391,7 +391,7 @@ fn only(alloc: Global, labels: Labels) -> Result<Row, Memory>
 }
 
 /// The labels that are declared, where these are finitely many and all others are not.
-fn declared_labels(alloc: Global, undeclared: &TextSet) -> Result<Option<Labels>, Memory>
+fn declared_labels(alloc: Global, undeclared: &TextSet) -> Result<Option<LabelSet>, Memory>
     ensures some { IfOk result (λ found. IfSome found
         (λ labels. (undeclared.now.0 ≡ true) ×
         ((l : List ℕ) → RefusesLabel labels l ↔ (is_text_member undeclared.now l ≡ true)))) }
@@ -401,5 +401,5 @@ fn declared_labels(alloc: Global, undeclared: &TextSet) -> Result<Option<Labels>
     if !all_but {
         return Ok(None);
     }
-    Ok(Labels::listing(labels))
+    Ok(LabelSet::listing(labels))
 }

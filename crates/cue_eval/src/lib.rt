@@ -1,20 +1,20 @@
 //! Evaluation: what expressions and texts refuse at each place.
 #![tactic(auto)]
 
-mod body;
+mod build;
+mod close;
 mod declared;
+mod declares;
+mod definitions;
 mod evaluation;
-mod found;
-mod hanging;
 mod labels;
 mod laws;
 mod left_out;
 mod pair;
 mod parts;
-mod place;
 mod rows;
 mod scalars;
-mod told;
+mod tables;
 
 pub use cue_lattice::{Memory, Narrow, Narrowed, Text};
 pub use cue_row::Row;

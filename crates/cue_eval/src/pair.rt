@@ -1,7 +1,7 @@
 //! The value and the default of scalar expressions.
 ghost use Rattle.std.specs.Prelude.{◌≡◌, ◌<◌, length, IfOk};
 ghost use Rattle.cue_scalars.specs.Pairs as joining;
-ghost use Rattle.cue_scalars.specs.Values.{pair_of};
+ghost use Rattle.cue_scalars.specs.Values.{pair_of_value};
 ghost use Rattle.cue_syntax.specs.Syntax as tree;
 ghost use Rattle.cue_scope.specs.Meaning.{meant_word};
 ghost use Rattle.cue_eval.specs.Inner.Known.{named_core, core_of, parts_of, choices_of, IsPairable};
@@ -9,7 +9,7 @@ ghost use Rattle.cue_eval.specs.Inner.Known.{ArePairable, ArePairableTerms, IsPa
 ghost use Rattle.cue_eval.specs.Pairs.{pair, pairs_of, terms_of};
 
 use crate::scalars::{
-    bounded, integer_alone, integer_of, named_set, nothing, null_alone, other_integers,
+    bottom_value, bound_value, integer_alone, integer_of, named_set, null_alone, other_integers,
     other_texts, text_alone, truth_alone,
 };
 use cue_lattice::Memory;
@@ -33,15 +33,15 @@ impl<'a, 'f, 't> Pairs<'a, 'f, 't> {
     #[cycle(pair)]
     pub(crate) fn pair(&self, expression: &Expr) -> Result<Valued, Memory>
         requires { IsPairable self.now (tree.expression expression.now) }
-        ensures { IfOk result (λ valued. pair_of valued
+        ensures { IfOk result (λ valued. pair_of_value valued
             ≡ pair (core_of self.now (tree.expression expression.now))) }
     {
         match expression {
             Expr::Name { name, .. } => self.name(name),
             Expr::Integer(written) => Ok(integer_alone(self.alloc, integer_of(*written))),
             Expr::Text(text) => text_alone(self.alloc, text.as_str()),
-            Expr::Bottom => Ok(nothing(self.alloc)),
-            Expr::Bound(comparison, written) => Ok(bounded(
+            Expr::Bottom => Ok(bottom_value(self.alloc)),
+            Expr::Bound(comparison, written) => Ok(bound_value(
                 self.alloc,
                 *comparison,
                 integer_of(*written),
@@ -51,9 +51,9 @@ impl<'a, 'f, 't> Pairs<'a, 'f, 't> {
             Expr::Parenthesis { inner, .. } => self.pair(inner),
             Expr::Conjunction(parts) => self.conjunction(parts),
             Expr::Disjunction(terms) => self.disjunction(terms),
-            Expr::Struct { .. } => Ok(nothing(self.alloc)),
-            Expr::Close { .. } => Ok(nothing(self.alloc)),
-            Expr::List { .. } => Ok(nothing(self.alloc)),
+            Expr::Struct { .. } => Ok(bottom_value(self.alloc)),
+            Expr::Close { .. } => Ok(bottom_value(self.alloc)),
+            Expr::List { .. } => Ok(bottom_value(self.alloc)),
         }
     }
 
@@ -61,9 +61,9 @@ impl<'a, 'f, 't> Pairs<'a, 'f, 't> {
     #[cycle(pair)]
     fn conjunction(&self, parts: &[Expr]) -> Result<Valued, Memory>
         requires some { 0 < length parts.now }
-        requires parts { ArePairable self.now (tree.elements parts.now) }
-        ensures { IfOk result (λ valued. pair_of valued
-            ≡ joining.all_of (pairs_of (parts_of self.now (tree.elements parts.now)))) }
+        requires parts { ArePairable self.now (tree.elements_of_list parts.now) }
+        ensures { IfOk result (λ valued. pair_of_value valued
+            ≡ joining.all_of (pairs_of (parts_of self.now (tree.elements_of_list parts.now)))) }
     {
         let mut pairs = Vec::new(self.alloc);
         for part in parts {
@@ -76,9 +76,9 @@ impl<'a, 'f, 't> Pairs<'a, 'f, 't> {
     /// Terms that are joined by `|`.
     #[cycle(pair)]
     fn disjunction(&self, terms: &[Term]) -> Result<Valued, Memory>
-        requires { ArePairableTerms self.now (tree.branches terms.now) }
-        ensures { IfOk result (λ valued. pair_of valued
-            ≡ joining.disjunction (terms_of (choices_of self.now (tree.branches terms.now)))) }
+        requires { ArePairableTerms self.now (tree.branches_of_list terms.now) }
+        ensures { IfOk result (λ valued. pair_of_value valued
+            ≡ joining.disjunction (terms_of (choices_of self.now (tree.branches_of_list terms.now)))) }
     {
         let mut pairs = Vec::new(self.alloc);
         for term in terms {
@@ -91,26 +91,26 @@ impl<'a, 'f, 't> Pairs<'a, 'f, 't> {
     /// A name.
     pub(crate) fn name(&self, name: &Identifier) -> Result<Valued, Memory>
         requires { IsPairableName self.now name.now }
-        ensures { IfOk result (λ valued. pair_of valued ≡ pair (named_core self.now name.now)) }
+        ensures { IfOk result (λ valued. pair_of_value valued ≡ pair (named_core self.now name.now)) }
     {
         match name {
-            Identifier::Plain(name) => word(self.alloc, name.as_str()),
-            Identifier::Definition(name) => self.used(name.as_str()),
-            Identifier::Hidden(_) => Ok(nothing(self.alloc)),
+            Identifier::Plain(name) => value_of_word(self.alloc, name.as_str()),
+            Identifier::Definition(name) => self.use_definition(name.as_str()),
+            Identifier::Hidden(_) => Ok(bottom_value(self.alloc)),
         }
     }
 
     /// A use of a definition.
-    fn used(&self, name: &str) -> Result<Valued, Memory>
+    fn use_definition(&self, name: &str) -> Result<Valued, Memory>
         requires { IsPairableName self.now (Identifier.Definition name.now) }
-        ensures { IfOk result (λ valued. pair_of valued
+        ensures { IfOk result (λ valued. pair_of_value valued
             ≡ pair (named_core self.now (Identifier.Definition name.now))) }
     {
         match self.definitions.number(name) {
-            None => Ok(nothing(self.alloc)),
+            None => Ok(bottom_value(self.alloc)),
             Some(number) => match self.pairs.get(number) {
-                None => Ok(nothing(self.alloc)),
-                Some(None) => Ok(nothing(self.alloc)),
+                None => Ok(bottom_value(self.alloc)),
+                Some(None) => Ok(bottom_value(self.alloc)),
                 Some(Some(pair)) => pair.copy(self.alloc),
             },
         }
@@ -118,15 +118,15 @@ impl<'a, 'f, 't> Pairs<'a, 'f, 't> {
 }
 
 /// A name of a scalar, or of a set of scalars; any other has no meaning.
-fn word(alloc: Global, name: &str) -> Result<Valued, Memory>
-    ensures { IfOk result (λ valued. pair_of valued ≡ pair (meant_word name.now)) }
+fn value_of_word(alloc: Global, name: &str) -> Result<Valued, Memory>
+    ensures { IfOk result (λ valued. pair_of_value valued ≡ pair (meant_word name.now)) }
 {
     match name {
         "true" => Ok(truth_alone(alloc, true)),
         "false" => Ok(truth_alone(alloc, false)),
         "null" => Ok(null_alone(alloc)),
         _ => match Named::of(name) {
-            None => Ok(nothing(alloc)),
+            None => Ok(bottom_value(alloc)),
             Some(set) => named_set(alloc, set),
         },
     }

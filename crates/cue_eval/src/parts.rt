@@ -1,7 +1,7 @@
 //! The parts of an `&`: those that are scalars, and the definitions that others name.
 ghost use Rattle.std.specs.Prelude.{◌↔◌, ℕ, IfSome, IsTrue};
-ghost use Rattle.cue_scope.specs.Graph.{IsIn};
-ghost use Rattle.cue_scope.specs.Kept.{all_of};
+ghost use Rattle.cue_scope.specs.Graph.{IsNodeIn};
+ghost use Rattle.cue_scope.specs.Kept.{nodes_kept};
 ghost use Rattle.cue_syntax.specs.Syntax.{expression};
 ghost use Rattle.cue_eval.specs.Inner.Parts.{IsScalarPart, IsUseOf};
 
@@ -32,7 +32,7 @@ pub(crate) fn is_scalar_part(part: &Expr) -> bool
 
 /// The number of the definition that a part names, also in parentheses.
 pub(crate) fn number_of(definitions: &Definitions, part: &Expr) -> Option<usize>
-    ensures { IfSome result (IsUseOf (all_of definitions.now) part.now) }
+    ensures { IfSome result (IsUseOf (nodes_kept definitions.now) part.now) }
 {
     match part {
         Expr::Parenthesis { inner, .. } => number_of(definitions, inner),
@@ -46,8 +46,8 @@ pub(crate) fn number_of(definitions: &Definitions, part: &Expr) -> Option<usize>
 }
 
 /// These numbers, each once.
-pub(crate) fn distinct(numbers: Vec<usize>) -> Vec<usize>
-    ensures { (i : ℕ) → IsIn i result.items ↔ IsIn i numbers.items }
+pub(crate) fn remove_repeats(numbers: Vec<usize>) -> Vec<usize>
+    ensures { (i : ℕ) → IsNodeIn i result.items ↔ IsNodeIn i numbers.items }
 {
     let mut each = numbers;
     each.sort_unstable();

@@ -3,11 +3,11 @@ ghost use Rattle.std.specs.Prelude.{◌≡◌, ◌≤◌, ◌&&◌, Bool, false,
 ghost use Rattle.std.specs.Prelude.{IfOk};
 ghost use Rattle.cue_sets.specs.Pieces.{is_member, is_int64};
 ghost use Rattle.cue_sets.specs.Texts.{is_text_member};
-ghost use Rattle.cue_scalars.specs.Values.{pair_of};
+ghost use Rattle.cue_scalars.specs.Values.{pair_of_value};
 ghost use Rattle.cue_syntax.specs.Grammar.{IsInRange};
 ghost use Rattle.cue_syntax.specs.declared.tree.Comparison.TheVariants.{Less, Greater};
 ghost use Rattle.cue_eval.specs.Sets as sets;
-ghost use Rattle.cue_eval.specs.Pairs.{plain};
+ghost use Rattle.cue_eval.specs.Pairs.{plain_pair};
 
 use cue_lattice::Memory;
 use cue_scalars::{ScalarSet, Valued};
@@ -29,8 +29,8 @@ pub(crate) fn integer_of(written: Signed) -> i64
 }
 
 /// Nothing: `_|_`.
-pub(crate) fn nothing(alloc: Global) -> Valued
-    ensures { pair_of result ≡ plain sets.nothing }
+pub(crate) fn bottom_value(alloc: Global) -> Valued
+    ensures { pair_of_value result ≡ plain_pair sets.no_scalars }
 {
     Valued {
         value: ScalarSet::empty(alloc),
@@ -40,7 +40,7 @@ pub(crate) fn nothing(alloc: Global) -> Valued
 
 /// Null alone.
 pub(crate) fn null_alone(alloc: Global) -> Valued
-    ensures { pair_of result ≡ plain sets.null_alone }
+    ensures { pair_of_value result ≡ plain_pair sets.null_alone }
 {
     Valued {
         value: ScalarSet {
@@ -56,65 +56,65 @@ pub(crate) fn null_alone(alloc: Global) -> Valued
 
 /// One truth value alone.
 pub(crate) fn truth_alone(alloc: Global, truth: bool) -> Valued
-    ensures { pair_of result ≡ plain (sets.truth_alone truth) }
+    ensures { pair_of_value result ≡ plain_pair (sets.truth_alone truth) }
 {
     of_truths(alloc, !truth, truth)
 }
 
 /// One integer alone.
 pub(crate) fn integer_alone(alloc: Global, number: i64) -> Valued
-    ensures { pair_of result ≡ plain (sets.integer_alone number) }
+    ensures { pair_of_value result ≡ plain_pair (sets.integer_alone number) }
 {
     of_integers(alloc, IntSet::one(number))
 }
 
 /// All integers but one.
 pub(crate) fn other_integers(alloc: Global, number: i64) -> Result<Valued, Memory>
-    ensures { IfOk result (λ valued. pair_of valued ≡ plain (sets.other_integers number)) }
+    ensures { IfOk result (λ valued. pair_of_value valued ≡ plain_pair (sets.other_integers number)) }
 {
     Ok(of_integers(alloc, IntSet::but(alloc, number)?))
 }
 
 /// One text alone.
 pub(crate) fn text_alone(alloc: Global, text: &str) -> Result<Valued, Memory>
-    ensures { IfOk result (λ valued. pair_of valued ≡ plain (sets.text_alone text.now)) }
+    ensures { IfOk result (λ valued. pair_of_value valued ≡ plain_pair (sets.text_alone text.now)) }
 {
     Ok(of_texts(alloc, TextSet::one(alloc, text)?))
 }
 
 /// All texts but one.
 pub(crate) fn other_texts(alloc: Global, text: &str) -> Result<Valued, Memory>
-    ensures { IfOk result (λ valued. pair_of valued ≡ plain (sets.other_texts text.now)) }
+    ensures { IfOk result (λ valued. pair_of_value valued ≡ plain_pair (sets.other_texts text.now)) }
 {
     Ok(of_texts(alloc, TextSet::but(alloc, text)?))
 }
 
 /// The integers that a bound lets stand.
-pub(crate) fn bounded(alloc: Global, comparison: Comparison, number: i64) -> Valued
-    ensures { pair_of result ≡ plain (sets.bounded comparison number) }
+pub(crate) fn bound_value(alloc: Global, comparison: Comparison, number: i64) -> Valued
+    ensures { pair_of_value result ≡ plain_pair (sets.bound_scalars comparison number) }
 {
     match comparison {
-        Comparison::Less => below(alloc, number),
+        Comparison::Less => integers_below(alloc, number),
         Comparison::AtMost => of_integers(alloc, IntSet::at_most(number)),
-        Comparison::Greater => above(alloc, number),
+        Comparison::Greater => integers_above(alloc, number),
         Comparison::AtLeast => of_integers(alloc, IntSet::at_least(number)),
     }
 }
 
 /// The set of this name.
 pub(crate) fn named_set(alloc: Global, name: Named) -> Result<Valued, Memory>
-    ensures { IfOk result (λ valued. pair_of valued ≡ plain (sets.named_set name)) }
+    ensures { IfOk result (λ valued. pair_of_value valued ≡ plain_pair (sets.named_set name)) }
 {
     match name {
         Named::Int => Ok(of_integers(alloc, IntSet::full())),
         Named::Text => Ok(of_texts(alloc, TextSet::all(alloc))),
         Named::Bool => Ok(of_truths(alloc, true, true)),
-        Named::Int8 => between(alloc, -128, 127),
-        Named::Uint8 => between(alloc, 0, 255),
-        Named::Int16 => between(alloc, -32_768, 32_767),
-        Named::Uint16 => between(alloc, 0, 65_535),
-        Named::Int32 => between(alloc, -2_147_483_648, 2_147_483_647),
-        Named::Uint32 => between(alloc, 0, 4_294_967_295),
+        Named::Int8 => integers_between(alloc, -128, 127),
+        Named::Uint8 => integers_between(alloc, 0, 255),
+        Named::Int16 => integers_between(alloc, -32_768, 32_767),
+        Named::Uint16 => integers_between(alloc, 0, 65_535),
+        Named::Int32 => integers_between(alloc, -2_147_483_648, 2_147_483_647),
+        Named::Uint32 => integers_between(alloc, 0, 4_294_967_295),
         Named::Int64 => Ok(of_integers(alloc, IntSet::full())),
         Named::Uint => Ok(of_integers(alloc, IntSet::at_least(0))),
     }
@@ -132,8 +132,8 @@ fn negative(magnitude: u64) -> i64
 }
 
 /// The integers below a number.
-fn below(alloc: Global, number: i64) -> Valued
-    ensures { pair_of result ≡ plain (sets.bounded Less number) }
+fn integers_below(alloc: Global, number: i64) -> Valued
+    ensures { pair_of_value result ≡ plain_pair (sets.bound_scalars Less number) }
 {
     if number == i64::MIN {
         return of_integers(alloc, IntSet::empty(alloc));
@@ -142,8 +142,8 @@ fn below(alloc: Global, number: i64) -> Valued
 }
 
 /// The integers above a number.
-fn above(alloc: Global, number: i64) -> Valued
-    ensures { pair_of result ≡ plain (sets.bounded Greater number) }
+fn integers_above(alloc: Global, number: i64) -> Valued
+    ensures { pair_of_value result ≡ plain_pair (sets.bound_scalars Greater number) }
 {
     if number == i64::MAX {
         return of_integers(alloc, IntSet::empty(alloc));
@@ -152,8 +152,8 @@ fn above(alloc: Global, number: i64) -> Valued
 }
 
 /// The integers from one number to another, with both.
-fn between(alloc: Global, low: i64, high: i64) -> Result<Valued, Memory>
-    ensures { IfOk result (λ valued. pair_of valued ≡ plain (sets.between low high)) }
+fn integers_between(alloc: Global, low: i64, high: i64) -> Result<Valued, Memory>
+    ensures { IfOk result (λ valued. pair_of_value valued ≡ plain_pair (sets.integers_between low high)) }
 {
     let from_low = IntSet::at_least(low);
     let to_high = IntSet::at_most(high);
@@ -164,7 +164,7 @@ fn between(alloc: Global, low: i64, high: i64) -> Result<Valued, Memory>
 fn of_integers(alloc: Global, ints: IntSet) -> Valued
     ensures { (test : ℤ → Bool) →
         ((n : ℤ) → is_member ints n ≡ (is_int64 n && test n)) →
-        pair_of result ≡ plain (sets.integers test) }
+        pair_of_value result ≡ plain_pair (sets.integers test) }
 {
     Valued {
         value: ScalarSet {
@@ -182,7 +182,7 @@ fn of_integers(alloc: Global, ints: IntSet) -> Valued
 fn of_texts(alloc: Global, texts: TextSet) -> Valued
     ensures { (test : List ℕ → Bool) →
         ((t : List ℕ) → is_text_member texts t ≡ test t) →
-        pair_of result ≡ plain (sets.texts test) }
+        pair_of_value result ≡ plain_pair (sets.all_texts test) }
 {
     Valued {
         value: ScalarSet {
@@ -199,7 +199,7 @@ fn of_texts(alloc: Global, texts: TextSet) -> Valued
 /// False and true, each where it is a member.
 fn of_truths(alloc: Global, no: bool, yes: bool) -> Valued
     ensures { (test : Bool → Bool) → no ≡ test false → yes ≡ test true →
-        pair_of result ≡ plain (sets.truths test) }
+        pair_of_value result ≡ plain_pair (sets.truth_values test) }
 {
     Valued {
         value: ScalarSet {

@@ -2,7 +2,7 @@
 use Rattle.std.specs.Prelude.{◌≢◌, ℕ, Bool, true, List, Option, Some, None}
 use Rattle.http_server.specs.Connection.{history}
 use Rattle.cue_http.specs.declared.peer.Peer.{Peer}
-use Rattle.cue_http.specs.declared.peer.Held.{Held}
+use Rattle.cue_http.specs.declared.peer.HeldAnswer.{HeldAnswer}
 
 -- all that was handed to a peer
 abbrev pub sent_by : Peer → List ℕ
@@ -13,6 +13,6 @@ abbrev pub IsSettled : {S : Type 0} → (S → Bool → S → Type 0) → S → 
 IsSettled {S} settles service = (before : S) × settles before true service
 
 -- it waits for another edition than the one it began with, and this is one
-abbrev pub WaitsSince : ℕ → Option Held → Type 0
+abbrev pub WaitsSince : ℕ → Option HeldAnswer → Type 0
 WaitsSince edition None = ⊥
 WaitsSince edition (Some held) = held.edition ≢ edition

@@ -3,10 +3,10 @@ ghost use Rattle.std.specs.Duration.{as_nanos};
 ghost use Rattle.std.specs.Time.{instant_nanos, FitsClock};
 
 use crate::peer::is_due;
-use crate::question::{Answer, Course, Question, Unasked, Wanted};
+use crate::question::{AskError, Course, SourceAnswer, SourceQuestion, Wanted};
 use crate::rounds::{Gathers, News};
 use crate::serving::Bounds;
-use cue_pieces::Cursor;
+use cue_pieces::PieceCursor;
 use http::HeaderValue;
 use mio::Poll;
 use std::alloc::Global;
@@ -25,15 +25,15 @@ pub(crate) struct Asked {
     /// The tag of the state that was taken last. Where there is none it is asked with the site's own.
     tag: Vec<u8>,
     /// The place up to which its pieces were taken. Where there is none it is asked for its state.
-    cursor: Option<Cursor>,
+    cursor: Option<PieceCursor>,
     next: Instant,
     pause: Duration,
-    question: Option<Question>,
+    question: Option<SourceQuestion>,
 }
 
 /// What came of a question.
 #[derive(Clone, Copy, Debug, PartialEq, Eq)]
-pub(crate) enum Outcome {
+pub(crate) enum AskOutcome {
     Taken,
     /// The pieces that were asked for are not to be had: the state has to be asked for.
     Gone,
@@ -80,13 +80,13 @@ impl Asked {
         if self.question.is_some() || !is_due(now, self.next) {
             return;
         }
-        match self.ask(rt, poll, later(now, bounds.idle), service) {
+        match self.ask(rt, poll, add_pause(now, bounds.idle), service) {
             Ok(question) => self.question = Some(question),
-            Err(Unasked::Refused) if self.remembers() => {
+            Err(AskError::Refused) if self.has_answer() => {
                 self.forget();
-                service.hear(News::Forgotten(self.number));
+                service.note_news(News::Forgotten(self.number));
             }
-            Err(_) => self.failed(rt, now, bounds, service),
+            Err(_) => self.note_failure(rt, now, bounds, service),
         }
     }
 
@@ -97,22 +97,22 @@ impl Asked {
         poll: &Poll,
         until: Instant,
         service: &mut S,
-    ) -> Result<Question, Unasked>
+    ) -> Result<SourceQuestion, AskError>
     where
         H: AllocGlobal + Net,
     {
-        let own = match self.remembers() {
+        let own = match self.has_answer() {
             true => None,
             false => service.tag(),
         };
         let token = token_of(self.number);
-        let wanted = self.wanted(&own);
-        Question::begin(rt, rt.alloc(), poll, token, self.at, wanted, until)
+        let wanted = self.next_wanted(&own);
+        SourceQuestion::begin(rt, rt.alloc(), poll, token, self.at, wanted, until)
     }
 
     /// What is asked for: the pieces behind the place that is remembered, or the state, unless it is
     /// the one that was taken last, or the site's own.
-    fn wanted<'a>(&'a self, own: &'a Option<HeaderValue>) -> Wanted<'a>
+    fn next_wanted<'a>(&'a self, own: &'a Option<HeaderValue>) -> Wanted<'a>
         ensures { IfSome self.now.cursor (λ cursor. result ≡ Wanted.Pieces cursor) }
     {
         match (self.cursor, own) {
@@ -123,7 +123,7 @@ impl Asked {
     }
 
     /// Whether something of its answers is remembered.
-    fn remembers(&self) -> bool {
+    fn has_answer(&self) -> bool {
         !self.tag.is_empty() || self.cursor.is_some()
     }
 
@@ -156,47 +156,47 @@ impl Asked {
             return;
         }
         match self.take(&question, service) {
-            Outcome::Taken => {
+            AskOutcome::Taken => {
                 self.pause = bounds.every;
-                self.next = later(now, drawn(rt, bounds.every));
-                service.hear(News::Answered(self.number));
+                self.next = add_pause(now, draw_pause(rt, bounds.every));
+                service.note_news(News::Answered(self.number));
             }
-            Outcome::Gone => {
+            AskOutcome::Gone => {
                 self.forget();
                 self.next = now;
             }
-            Outcome::Failed => self.failed(rt, now, bounds, service),
+            AskOutcome::Failed => self.note_failure(rt, now, bounds, service),
         }
     }
 
     /// Takes what an answer brings.
-    fn take<S: Gathers>(&mut self, question: &Question, service: &mut S) -> Outcome
+    fn take<S: Gathers>(&mut self, question: &SourceQuestion, service: &mut S) -> AskOutcome
         // A place is remembered only where what came with it was taken.
         ensures { (self.new.cursor ≡ self.old.cursor) ⊎ (self.new.cursor ≡ None) ⊎ (result ≡ Outcome.Taken) }
     {
         match question.answer() {
-            Answer::State(bytes) => {
-                if !service.pulled(bytes) {
-                    return Outcome::Failed;
+            SourceAnswer::State(bytes) => {
+                if !service.pull_state(bytes) {
+                    return AskOutcome::Failed;
                 }
                 remember(&mut self.tag, question.tag());
             }
-            Answer::Same => remember(&mut self.tag, question.tag()),
-            Answer::Pieces(bytes) => {
-                if !service.pulled_pieces(bytes) {
+            SourceAnswer::Same => remember(&mut self.tag, question.tag()),
+            SourceAnswer::Pieces(bytes) => {
+                if !service.pull_pieces(bytes) {
                     self.cursor = None;
-                    return Outcome::Failed;
+                    return AskOutcome::Failed;
                 }
             }
-            Answer::Gone => return Outcome::Gone,
-            Answer::None => return Outcome::Failed,
+            SourceAnswer::Gone => return AskOutcome::Gone,
+            SourceAnswer::None => return AskOutcome::Failed,
         }
         self.cursor = question.cursor();
-        Outcome::Taken
+        AskOutcome::Taken
     }
 
     /// One that fails is asked less often.
-    fn failed<R: RandomSource, S: Gathers>(
+    fn note_failure<R: RandomSource, S: Gathers>(
         &mut self,
         rt: &R,
         now: Instant,
@@ -211,15 +211,15 @@ impl Asked {
         ensures cursor { self.new.cursor ≡ self.old.cursor }
         ensures question { self.new.question ≡ self.old.question }
     {
-        self.next = later(now, drawn(rt, self.pause));
-        self.pause = longer(self.pause, bounds.every);
-        service.hear(News::Failed(self.number));
+        self.next = add_pause(now, draw_pause(rt, self.pause));
+        self.pause = lengthen_pause(self.pause, bounds.every);
+        service.note_news(News::Failed(self.number));
     }
 }
 
 /// The pause behind a further failure: twice as long, up to a bound, and never shorter than that
 /// behind an answer.
-fn longer(pause: Duration, every: Duration) -> Duration
+fn lengthen_pause(pause: Duration, every: Duration) -> Duration
     ensures least { as_nanos every ≤ as_nanos result }
     ensures most { (result ≡ every) ⊎ (as_nanos result ≤ 60_000_000_000) }
 {
@@ -237,7 +237,7 @@ fn remember(place: &mut Vec<u8>, bytes: &[u8]) {
 }
 
 /// This moment, or the one so much later.
-pub(crate) fn later(now: Instant, pause: Duration) -> Instant
+pub(crate) fn add_pause(now: Instant, pause: Duration) -> Instant
     ensures { FitsClock (instant_nanos now + as_nanos pause)
         → instant_nanos result ≡ instant_nanos now + as_nanos pause }
 {
@@ -245,7 +245,7 @@ pub(crate) fn later(now: Instant, pause: Duration) -> Instant
 }
 
 /// The pause, or up to a quarter less, so that sites do not ask all at once.
-fn drawn<R: RandomSource>(rt: &R, pause: Duration) -> Duration
+fn draw_pause<R: RandomSource>(rt: &R, pause: Duration) -> Duration
     ensures most { as_nanos result ≤ as_nanos pause }
     ensures least { 3 * as_nanos pause ≤ 4 * as_nanos result }
 {

@@ -4,7 +4,7 @@ use std::{fmt, io};
 
 /// Why serving ended.
 #[derive(Clone, Copy, Debug)]
-pub enum Ended {
+pub enum LoopError {
     /// A round failed to settle, and why.
     Unsettled(io::Error),
     /// This call of the system failed.
@@ -12,26 +12,26 @@ pub enum Ended {
     OutOfMemory,
 }
 
-impl From<AllocError> for Ended {
-    fn from(_error: AllocError) -> Ended {
-        Ended::OutOfMemory
+impl From<AllocError> for LoopError {
+    fn from(_error: AllocError) -> LoopError {
+        LoopError::OutOfMemory
     }
 }
 
-impl Display for Ended {
+impl Display for LoopError {
     fn fmt<W: Write>(&self, f: &mut Formatter<W>) -> fmt::Result {
         match self {
-            Ended::Unsettled(error) => write!(f, "a round could not be written: {error}"),
-            Ended::System(call, error) => write!(f, "{call}: {error}"),
-            Ended::OutOfMemory => f.write_str("out of memory"),
+            LoopError::Unsettled(error) => write!(f, "a round could not be written: {error}"),
+            LoopError::System(call, error) => write!(f, "{call}: {error}"),
+            LoopError::OutOfMemory => f.write_str("out of memory"),
         }
     }
 }
 
 /// What a call of the system gave, or that this call failed.
-pub(crate) fn called<T>(call: &'static str, answer: io::Result<T>) -> Result<T, Ended> {
+pub(crate) fn check_call<T>(call: &'static str, answer: io::Result<T>) -> Result<T, LoopError> {
     match answer {
         Ok(value) => Ok(value),
-        Err(error) => Err(Ended::System(call, error)),
+        Err(error) => Err(LoopError::System(call, error)),
     }
 }

@@ -12,6 +12,6 @@ mod rounds;
 mod serving;
 mod wait;
 
-pub use ended::Ended;
+pub use ended::LoopError;
 pub use rounds::{Gathers, InRound, News};
-pub use serving::{Bounds, Source, serve};
+pub use serving::{Bounds, PullSource, serve};

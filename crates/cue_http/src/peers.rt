@@ -38,7 +38,7 @@ pub(crate) enum Taking {
 
 /// What an `accept` that failed so says of those that wait: that none does, where it would block, and
 /// else that one does.
-fn taking_of(kind: ErrorKind) -> Taking
+fn accepting_of(kind: ErrorKind) -> Taking
     ensures all { (result ≡ Taking.All) ↔ (kind ≡ ErrorKind.WouldBlock) }
     ensures refused { (result ≡ Taking.Refused) ↔ ¬ (kind ≡ ErrorKind.WouldBlock) }
 {
@@ -50,7 +50,7 @@ fn taking_of(kind: ErrorKind) -> Taking
 
 /// Room for a connection.
 #[derive(Drop)]
-enum Place {
+enum PeerSlot {
     /// None is there. The next free place, where there is one.
     Free(Option<usize>),
     Taken(Peer),
@@ -63,7 +63,7 @@ pub(crate) struct Peers {
     alloc: Global,
     keys: RandomState,
     bounds: Bounds,
-    places: Vec<Place>,
+    places: Vec<PeerSlot>,
     free: Option<usize>,
     /// The places that are looked at in this round, and those of the next.
     listed: Vec<usize>,
@@ -106,7 +106,7 @@ impl Peers {
     pub(crate) fn wake(&mut self, token: usize) {
         if token > LISTENER {
             let place = token - 1;
-            if let Some(Place::Taken(peer)) = self.places.get_mut(place) {
+            if let Some(PeerSlot::Taken(peer)) = self.places.get_mut(place) {
                 peer.wake();
             }
             self.list(place);
@@ -115,7 +115,7 @@ impl Peers {
 
     /// Has the peer at a place looked at.
     fn list(&mut self, place: usize) {
-        if let Some(Place::Taken(peer)) = self.places.get_mut(place) {
+        if let Some(PeerSlot::Taken(peer)) = self.places.get_mut(place) {
             if peer.list() && self.listed.push(place).is_err() {
                 peer.unlist();
             }
@@ -127,7 +127,7 @@ impl Peers {
         for _ in 0..MOST_NEW {
             match listener.accept() {
                 Ok((stream, _)) => self.add(poll, stream, now),
-                Err(error) => return taking_of(error.kind()),
+                Err(error) => return accepting_of(error.kind()),
             }
         }
         Taking::More
@@ -147,10 +147,10 @@ impl Peers {
         }
         let peer = Peer::new(stream, self.connection(), self.patience(now));
         if let Some(room) = self.places.get_mut(place) {
-            if let Place::Free(next) = room {
+            if let PeerSlot::Free(next) = room {
                 self.free = *next;
             }
-            *room = Place::Taken(peer);
+            *room = PeerSlot::Taken(peer);
             self.open = self.open.saturating_add(1);
             self.list(place);
         }
@@ -186,13 +186,13 @@ impl Peers {
         let place = self.places.len();
         let count = place.saturating_add(1);
         let has_room = reserve(&mut self.listed, &mut self.next, count).is_ok();
-        if has_room && add(&mut self.places, Place::Free(None)).is_ok() {
+        if has_room && add(&mut self.places, PeerSlot::Free(None)).is_ok() {
             self.free = Some(place);
         }
     }
 
     /// Looks for those whose time is over, now and then.
-    pub(crate) fn tire(&mut self, now: Instant) {
+    pub(crate) fn end_overdue(&mut self, now: Instant) {
         if now < self.tick {
             return;
         }
@@ -200,10 +200,10 @@ impl Peers {
         let until = self.patience(now);
         for place in 0..self.places.len() {
             let tired = match self.places.get_mut(place) {
-                Some(Place::Taken(peer)) => {
-                    let waited = peer.waits();
-                    let tired = peer.tire(now, until);
-                    self.waiting = counted(self.waiting, waited, peer.waits());
+                Some(PeerSlot::Taken(peer)) => {
+                    let waited = peer.is_waiting();
+                    let tired = peer.end_overdue(now, until);
+                    self.waiting = count_waiting(self.waiting, waited, peer.is_waiting());
                     tired
                 }
                 _ => false,
@@ -217,18 +217,22 @@ impl Peers {
     /// Reads from those that are ready, and has the service answer.
     pub(crate) fn receive<S: Settle + Gathers>(&mut self, service: &mut InRound<S>, now: Instant) {
         for place in &self.listed {
-            if let Some(Place::Taken(peer)) = self.places.get_mut(*place) {
+            if let Some(PeerSlot::Taken(peer)) = self.places.get_mut(*place) {
                 if peer.is_ready() {
-                    let waited = peer.waits();
+                    let waited = peer.is_waiting();
                     work(peer, service, now, self.waiting < self.bounds.waiting);
-                    self.waiting = counted(self.waiting, waited, peer.waits());
+                    self.waiting = count_waiting(self.waiting, waited, peer.is_waiting());
                 }
             }
         }
     }
 
     /// Has those answered that wait for a change, where there is one.
-    pub(crate) fn tell<S: Settle + Gathers>(&mut self, service: &mut InRound<S>, now: Instant) {
+    pub(crate) fn answer_waiting<S: Settle + Gathers>(
+        &mut self,
+        service: &mut InRound<S>,
+        now: Instant,
+    ) {
         if self.waiting == 0 {
             return;
         }
@@ -241,7 +245,7 @@ impl Peers {
         for place in 0..self.places.len() {
             let fresh = self.connection();
             let asked = match self.places.get_mut(place) {
-                Some(Place::Taken(peer)) => peer.ask_again(service, edition, fresh, until),
+                Some(PeerSlot::Taken(peer)) => peer.ask_again(service, edition, fresh, until),
                 _ => false,
             };
             if asked {
@@ -257,7 +261,7 @@ impl Peers {
     {
         let until = self.patience(now);
         for place in &self.listed {
-            if let Some(Place::Taken(peer)) = self.places.get_mut(*place) {
+            if let Some(PeerSlot::Taken(peer)) = self.places.get_mut(*place) {
                 if peer.can_send() {
                     peer.send(service, until);
                 }
@@ -273,13 +277,13 @@ impl Peers {
             let Some(room) = self.places.get_mut(*place) else {
                 continue;
             };
-            let Place::Taken(peer) = room else {
+            let PeerSlot::Taken(peer) = room else {
                 continue;
             };
             peer.unlist();
             if peer.is_over() {
-                self.waiting = counted(self.waiting, peer.waits(), false);
-                *room = Place::Free(self.free);
+                self.waiting = count_waiting(self.waiting, peer.is_waiting(), false);
+                *room = PeerSlot::Free(self.free);
                 self.free = Some(*place);
                 self.open = self.open.saturating_sub(1);
             } else if peer.is_ready() && peer.list() && self.next.push(*place).is_err() {
@@ -302,7 +306,7 @@ fn work<S: Settle + Gathers>(
     ensures sent { sent_by peer.new ≡ sent_by peer.old }
 {
     peer.receive();
-    if peer.waits() {
+    if peer.is_waiting() {
         return;
     }
     if let Some(Wait { question, seconds }) = peer.answer(service) {
@@ -330,7 +334,7 @@ fn reserve(one: &mut Vec<usize>, other: &mut Vec<usize>, count: usize) -> Result
 }
 
 /// How many wait, where one did so or not, and does so or not.
-fn counted(waiting: usize, waited: bool, waits: bool) -> usize {
+fn count_waiting(waiting: usize, waited: bool, waits: bool) -> usize {
     match (waited, waits) {
         (false, true) => waiting.saturating_add(1),
         (true, false) => waiting.saturating_sub(1),

@@ -1,6 +1,6 @@
 ghost use Rattle.std.specs.Prelude.{◌≡◌, ◌≤◌, ◌++◌, length, OnOk};
 
-use cue_pieces::Cursor;
+use cue_pieces::PieceCursor;
 use http1::{BodySize, Client, Event, Header, Limits, WriteError};
 use httparse::spans::{EMPTY_HEADER_SPAN, HeaderSpan};
 use mio::net::TcpStream;
@@ -36,12 +36,12 @@ pub(crate) enum Wanted<'a> {
     /// Its state, unless it is the one with this tag.
     State(&'a [u8]),
     /// The pieces that it accepted behind this place.
-    Pieces(Cursor),
+    Pieces(PieceCursor),
 }
 
 /// Why a source was not asked.
 #[derive(Clone, Copy, Debug)]
-pub(crate) enum Unasked {
+pub(crate) enum AskError {
     /// The request can't be written: the tag in it is none.
     Refused,
     OutOfMemory,
@@ -49,29 +49,29 @@ pub(crate) enum Unasked {
     System(io::Error),
 }
 
-impl From<AllocError> for Unasked {
-    fn from(_error: AllocError) -> Unasked {
-        Unasked::OutOfMemory
+impl From<AllocError> for AskError {
+    fn from(_error: AllocError) -> AskError {
+        AskError::OutOfMemory
     }
 }
 
-impl From<io::Error> for Unasked {
-    fn from(error: io::Error) -> Unasked {
-        Unasked::System(error)
+impl From<io::Error> for AskError {
+    fn from(error: io::Error) -> AskError {
+        AskError::System(error)
     }
 }
 
-impl From<WriteError> for Unasked {
-    fn from(error: WriteError) -> Unasked {
+impl From<WriteError> for AskError {
+    fn from(error: WriteError) -> AskError {
         match error {
-            WriteError::OutOfMemory => Unasked::OutOfMemory,
-            _ => Unasked::Refused,
+            WriteError::OutOfMemory => AskError::OutOfMemory,
+            _ => AskError::Refused,
         }
     }
 }
 
 /// What a source answered.
-pub(crate) enum Answer<'a> {
+pub(crate) enum SourceAnswer<'a> {
     /// Its state.
     State(&'a [u8]),
     /// Its state is the one that was asked about.
@@ -113,7 +113,7 @@ impl Body {
 
 /// A question to a source, and what came of the answer so far.
 #[derive(Drop)]
-pub(crate) struct Question {
+pub(crate) struct SourceQuestion {
     stream: TcpStream,
     /// It asks for pieces, and else for the state.
     for_pieces: bool,
@@ -143,7 +143,7 @@ fn target(alloc: Global, wanted: Wanted<'_>) -> Result<Vec<u8>, AllocError> {
 }
 
 /// The tag that a question names, as that of the state that is had.
-fn known(wanted: Wanted<'_>) -> Option<&[u8]> {
+fn known_tag(wanted: Wanted<'_>) -> Option<&[u8]> {
     match wanted {
         Wanted::State(tag) if !tag.is_empty() => Some(tag),
         _ => None,
@@ -151,14 +151,14 @@ fn known(wanted: Wanted<'_>) -> Option<&[u8]> {
 }
 
 /// The request that asks so.
-fn ask(alloc: Global, client: &mut Client, wanted: Wanted<'_>) -> Result<Vec<u8>, Unasked> {
+fn ask(alloc: Global, client: &mut Client, wanted: Wanted<'_>) -> Result<Vec<u8>, AskError> {
     let mut question = Vec::new(alloc);
     let host = Header {
         name: b"host",
         value: b"site",
     };
     let target = target(alloc, wanted)?;
-    match known(wanted) {
+    match known_tag(wanted) {
         None => client.write_request(&mut question, b"GET", &target, &[host], BodySize::Empty)?,
         Some(tag) => {
             let none_match = Header {
@@ -174,14 +174,14 @@ fn ask(alloc: Global, client: &mut Client, wanted: Wanted<'_>) -> Result<Vec<u8>
 }
 
 /// Whether a socket that answers so can be asked again later; else its error.
-fn waits(error: io::Error) -> io::Result<()> {
+fn check_retry(error: io::Error) -> io::Result<()> {
     match error.kind() {
         ErrorKind::WouldBlock | ErrorKind::NotConnected => Ok(()),
         _ => Err(error),
     }
 }
 
-impl Question {
+impl SourceQuestion {
     /// Begins to ask a source.
     pub(crate) fn begin(
         net: &impl Net,
@@ -191,7 +191,7 @@ impl Question {
         source: SocketAddr,
         wanted: Wanted<'_>,
         until: Instant,
-    ) -> Result<Question, Unasked> {
+    ) -> Result<SourceQuestion, AskError> {
         let mut client = Client::new(Limits::default());
         let question = ask(alloc, &mut client, wanted)?;
         let mut stream = TcpStream::connect(net, source)?;
@@ -200,7 +200,7 @@ impl Question {
             Token(token),
             Interest::READABLE | Interest::WRITABLE,
         )?;
-        Ok(Question {
+        Ok(SourceQuestion {
             stream,
             for_pieces: matches!(wanted, Wanted::Pieces(_)),
             client,
@@ -222,20 +222,20 @@ impl Question {
     }
 
     /// What the whole answer says.
-    pub(crate) fn answer(&self) -> Answer<'_> {
+    pub(crate) fn answer(&self) -> SourceAnswer<'_> {
         match (self.for_pieces, self.course, self.code) {
-            (false, Course::Answered, 200) => Answer::State(&self.body.bytes),
-            (false, Course::Answered, 304) => Answer::Same,
-            (true, Course::Answered, 200) => Answer::Pieces(&self.body.bytes),
-            (true, Course::Answered | Course::Unfit, _) => Answer::Gone,
-            _ => Answer::None,
+            (false, Course::Answered, 200) => SourceAnswer::State(&self.body.bytes),
+            (false, Course::Answered, 304) => SourceAnswer::Same,
+            (true, Course::Answered, 200) => SourceAnswer::Pieces(&self.body.bytes),
+            (true, Course::Answered | Course::Unfit, _) => SourceAnswer::Gone,
+            _ => SourceAnswer::None,
         }
     }
 
     /// The place behind all pieces that the source had accepted as it answered; none where it named
     /// none, in the form `RUN-N`.
-    pub(crate) fn cursor(&self) -> Option<Cursor> {
-        Cursor::read(str::from_utf8(&self.cursor).ok()?)
+    pub(crate) fn cursor(&self) -> Option<PieceCursor> {
+        PieceCursor::read(str::from_utf8(&self.cursor).ok()?)
     }
 
     /// The tag of the state that it had as it answered.
@@ -269,7 +269,7 @@ impl Question {
             }
             match self.stream.write(rest) {
                 Ok(count) => self.sent = self.sent.saturating_add(count),
-                Err(error) => return waits(error),
+                Err(error) => return check_retry(error),
             }
         }
         Ok(())
@@ -286,7 +286,7 @@ impl Question {
                     }
                     self.read_answer()?;
                 }
-                Err(error) => return waits(error),
+                Err(error) => return check_retry(error),
             }
             if self.course != Course::Waiting {
                 return Ok(());

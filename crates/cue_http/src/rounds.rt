@@ -2,7 +2,7 @@ ghost use Rattle.std.specs.Prelude.{◌≡◌, ◌≤◌, ℕ, Bool, List, Some,
 ghost use Rattle.http.specs.declared.request.Request.{Request};
 ghost use Rattle.http_server.specs.declared.response.Response.{Response};
 
-use crate::wait::{Wait, asked_again};
+use crate::wait::{Wait, wait_of_request};
 use bytes::Bytes;
 use http::{HeaderValue, Request};
 use http_server::{Response, Service, Settle};
@@ -35,11 +35,11 @@ pub enum News {
 pub trait Gathers {
     /// Takes what a state brings, or nothing of it. Answers whether it was taken, or brought
     /// nothing.
-    fn pulled(&mut self, bytes: &[u8]) -> bool;
+    fn pull_state(&mut self, bytes: &[u8]) -> bool;
 
     /// Takes what pieces bring that another site accepted, one after the other, and passes over
     /// what is refused. Answers whether the bytes were those of pieces, and memory sufficed.
-    fn pulled_pieces(&mut self, bytes: &[u8]) -> bool;
+    fn pull_pieces(&mut self, bytes: &[u8]) -> bool;
 
     /// How many seconds the one who asks waits for a change, where this response has nothing new
     /// for it, and it is to be held back so long.
@@ -57,7 +57,7 @@ pub trait Gathers {
     fn fault(&mut self) -> io::Error;
 
     /// Hears what happened.
-    fn hear(&mut self, news: News);
+    fn note_news(&mut self, news: News);
 
     /// Writes a line for each event since the last call.
     fn report<L: Log>(&mut self, log: &L);
@@ -119,7 +119,7 @@ fn wait_of<S: Gathers>(
     ensures { IfSome result (λ wait. (response.now.status ≡ 304) × (wait.seconds ≤ 3600)) }
 {
     let seconds = service.patience(request, response)?;
-    let wait = asked_again(alloc, request, seconds)?;
+    let wait = wait_of_request(alloc, request, seconds)?;
     Some(wait)
 }
 

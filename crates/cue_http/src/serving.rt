@@ -1,8 +1,8 @@
 ghost use Rattle.std.specs.Prelude.{◌≡◌, ◌≤◌, length, true, false, IfOk, OnOk, OnErr};
 ghost use Rattle.cue_http.specs.Standing.{IsSettled};
 
-use crate::asked::{Asked, later, token_of};
-use crate::ended::{Ended, called};
+use crate::asked::{Asked, add_pause, token_of};
+use crate::ended::{LoopError, check_call};
 use crate::peers::{LISTENER, Peers, Taking, add};
 use crate::rounds::{Gathers, InRound, News};
 use http_server::{Config, Settle};
@@ -40,7 +40,7 @@ pub struct Bounds {
 
 /// Another site, whose state is asked for now and then.
 #[derive(Clone, Copy, Debug, PartialEq, Eq)]
-pub struct Source {
+pub struct PullSource {
     pub at: SocketAddr,
 }
 
@@ -72,23 +72,23 @@ pub fn serve<H, S, L>(
     log: &L,
     mut listener: TcpListener,
     bounds: Bounds,
-    sources: &[Source],
+    sources: &[PullSource],
     service: S,
     rounds: u64,
-) -> Result<(), Ended>
+) -> Result<(), LoopError>
 where
     H: AllocGlobal + Net + Clock + RandomSource,
     S: Settle + Gathers + Drop,
     L: Log,
 {
-    let mut poll = called("epoll_create", Poll::new(rt))?;
+    let mut poll = check_call("epoll_create", Poll::new(rt))?;
     let registered = poll
         .registry()
         .register(&mut listener, Token(LISTENER), Interest::READABLE);
-    called("epoll_ctl", registered)?;
+    check_call("epoll_ctl", registered)?;
     let mut events = Events::with_capacity(rt.alloc(), MOST_EVENTS)?;
-    let start = called("clock_gettime", Instant::now(rt))?;
-    let keys = called("getrandom", RandomState::new(rt))?;
+    let start = check_call("clock_gettime", Instant::now(rt))?;
+    let keys = check_call("getrandom", RandomState::new(rt))?;
     let mut state = Loop::new(rt.alloc(), keys, bounds, sources, service, start)?;
     let mut failures = 0u64;
     for _ in 0..rounds {
@@ -97,9 +97,9 @@ where
             let Token(token) = event.token();
             state.wake(token);
         }
-        let now = called("clock_gettime", Instant::now(rt))?;
+        let now = check_call("clock_gettime", Instant::now(rt))?;
         let seconds = now.saturating_duration_since(start).as_secs();
-        state.service.inner.hear(News::Now(seconds));
+        state.service.inner.note_news(News::Now(seconds));
         let settled = state.round(rt, &poll, &listener, now);
         state.service.inner.report(log);
         settled?;
@@ -117,19 +117,19 @@ fn wait_for_sockets(
     events: &mut Events,
     most: Duration,
     failures: u64,
-) -> Result<u64, Ended>
+) -> Result<u64, LoopError>
     ensures { IfOk result (λ failed. failed ≤ 16) }
 {
     match poll.poll(events, Some(most)) {
         Ok(()) => Ok(0),
-        Err(error) if failures >= MOST_FAILURES => Err(Ended::System("epoll_wait", error)),
+        Err(error) if failures >= MOST_FAILURES => Err(LoopError::System("epoll_wait", error)),
         Err(_) => Ok(failures + 1),
     }
 }
 
-fn asked_of(
+fn ask_sources(
     alloc: Global,
-    sources: &[Source],
+    sources: &[PullSource],
     now: Instant,
     every: Duration,
 ) -> Result<Vec<Asked>, AllocError>
@@ -148,7 +148,7 @@ impl<S: Drop> Loop<S> {
         alloc: Global,
         keys: RandomState,
         bounds: Bounds,
-        sources: &[Source],
+        sources: &[PullSource],
         service: S,
         start: Instant,
     ) -> Result<Loop<S>, AllocError>
@@ -156,7 +156,7 @@ impl<S: Drop> Loop<S> {
     {
         Ok(Loop {
             peers: Peers::new(alloc, keys, bounds, start),
-            asked: asked_of(alloc, sources, start, bounds.every)?,
+            asked: ask_sources(alloc, sources, start, bounds.every)?,
             service: InRound::new(alloc, service),
             bounds,
             taking: Taking::More,
@@ -195,7 +195,7 @@ impl<S: Settle + Gathers> Loop<S> {
         };
         if is_due {
             self.taking = self.peers.take(poll, listener, now);
-            self.again = later(now, Duration::from_millis(TICK));
+            self.again = add_pause(now, Duration::from_millis(TICK));
         }
     }
 
@@ -210,7 +210,7 @@ impl<S: Settle + Gathers> Loop<S> {
         poll: &Poll,
         listener: &TcpListener,
         now: Instant,
-    ) -> Result<(), Ended>
+    ) -> Result<(), LoopError>
     where
         H: AllocGlobal + Net + RandomSource,
         // Behind a round that did not settle there is none.
@@ -226,19 +226,19 @@ impl<S: Settle + Gathers> Loop<S> {
             asked.step(rt, now, &self.bounds, &mut self.service.inner);
         }
         let (open, waiting, turned_away) = self.peers.counts();
-        self.service.inner.hear(News::Connections {
+        self.service.inner.note_news(News::Connections {
             open,
             waiting,
             turned_away,
         });
-        self.peers.tire(now);
+        self.peers.end_overdue(now);
         self.peers.receive(&mut self.service, now);
-        self.peers.tell(&mut self.service, now);
+        self.peers.answer_waiting(&mut self.service, now);
         // What does not stand must not be told, nor what follows it: a new start reads the files
         // again.
         if !self.service.inner.settle() {
             self.stands = false;
-            return Err(Ended::Unsettled(self.service.inner.fault()));
+            return Err(LoopError::Unsettled(self.service.inner.fault()));
         }
         self.stands = true;
         self.peers.send(&self.service, now);

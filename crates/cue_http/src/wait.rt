@@ -19,7 +19,7 @@ pub(crate) struct Wait {
 const FIELDS: [&str; 2] = ["if-none-match", "connection"];
 
 /// How a request waits. One of another form, or for which memory is wanting, waits for nothing.
-pub(crate) fn asked_again(alloc: Global, request: &Request<Bytes>, seconds: u64) -> Option<Wait>
+pub(crate) fn wait_of_request(alloc: Global, request: &Request<Bytes>, seconds: u64) -> Option<Wait>
     ensures { IfSome result (λ wait. wait.seconds ≤ 3600) }
 {
     if request.method().as_str() != "GET" || request.version() != Version::HTTP_11 {

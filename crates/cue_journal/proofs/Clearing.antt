@@ -2,13 +2,13 @@
 use Rattle.std.proofs.Common.{◌≡◌, ℕ, ◌<◌, ◌≤◌, List, [], ◌∷◌, ◌++◌, length, get_or, refl, sym, ◌∙◌, ap, subst, arith, length-append, append-nil, append_assoc}
 use Rattle.sqlite_disk.specs.Disk.{Holds, Torn, Follows, Only}
 use Rattle.cue_journal.specs.Frames.{file_head, file_entries, scan, Bring, IsSound}
-use Rattle.cue_journal.specs.Settled.{IsSettled, IsKeptOrCleared}
+use Rattle.cue_journal.specs.Settled.{IsJournalSettled, IsKeptOrCleared}
 use Rattle.cue_journal.proofs.Scanning.{bring_nothing, scan-none}
 use Rattle.cue_journal.proofs.Files.{length-head, kept_or_cleared, entries_there, ends_there, zero_shut}
 use Rattle.cue_journal.proofs.Torn.{torn_gate}
 
 -- a file with frames, of which the first gate alone may be another
-regated : (seen : List ℕ) (may : List ℕ → Type 0) (end : ℕ) (c frames : List ℕ) → (s : IsSettled seen may end) → frames ≡ s.ends.frames → 19 < end → Torn 19 1 seen c
+regated : (seen : List ℕ) (may : List ℕ → Type 0) (end : ℕ) (c frames : List ℕ) → (s : IsJournalSettled seen may end) → frames ≡ s.ends.frames → 19 < end → Torn 19 1 seen c
     → (gate : ℕ) × (tail : List ℕ) × (frames ≡ gate ∷ tail) × (c ≡ file_head ++ get_or c 19 0 ∷ (tail ++ s.ends.gate ∷ s.ends.junk))
 regated seen may end c [] s is some torn = absurd (omega (arith, some, s.ends.size, length-append file_head s.ends.frames, length-head, ap length is))
 regated seen may end c (g ∷ tail) s is some torn =
@@ -17,17 +17,17 @@ regated seen may end c (g ∷ tail) s is some torn =
     let at : Torn (length file_head) 1 (file_head ++ g ∷ behind) c = subst (λ n. Torn n 1 (file_head ++ g ∷ behind) c) (sym length-head) (subst (λ f. Torn 19 1 f c) shape torn) in
     (g, tail, refl, torn_gate file_head behind c g at ∙ ap (λ n. file_head ++ get_or c n 0 ∷ behind) length-head)
 
-clear_left : (seen : List ℕ) (may : List ℕ → Type 0) (end : ℕ) (c : List ℕ) → IsSettled seen may end → 19 < end → Torn 19 1 seen c → IsKeptOrCleared (file_entries seen) c × IsSound c
+clear_left : (seen : List ℕ) (may : List ℕ → Type 0) (end : ℕ) (c : List ℕ) → IsJournalSettled seen may end → 19 < end → Torn 19 1 seen c → IsKeptOrCleared (file_entries seen) c × IsSound c
 clear_left seen may end c s some torn =
     let there = regated seen may end c s.ends.frames s refl some torn in
     kept_or_cleared c there.1 s.ends.junk there.0 s.ends.gate (get_or c 19 0) (file_entries seen) (subst (λ (l : List ℕ). Bring l (file_entries seen)) there.2 s.ends.bring) s.ends.shut there.3
 
-pub clear_crash : (seen : List ℕ) (may after : List ℕ → Type 0) (end : ℕ) → IsSettled seen may end → 19 < end → Follows (Torn 19 1) may after → (c : List ℕ) → after c → IsKeptOrCleared (file_entries seen) c × IsSound c
+pub clear_crash : (seen : List ℕ) (may after : List ℕ → Type 0) (end : ℕ) → IsJournalSettled seen may end → 19 < end → Follows (Torn 19 1) may after → (c : List ℕ) → after c → IsKeptOrCleared (file_entries seen) c × IsSound c
 clear_crash seen may after end s some follows c left =
     let from = follows c left in
     clear_left seen may end c s some (subst (λ f. Torn 19 1 f c) (s.durable from.0 from.1) from.2)
 
-pub clear_ok : (seen new : List ℕ) (may after : List ℕ → Type 0) (end : ℕ) → IsSettled seen may end → 19 < end → Torn 19 1 seen new → Holds new 19 (0 ∷ []) → Only new after → IsSettled new after 19 × (file_entries new ≡ [])
+pub clear_ok : (seen new : List ℕ) (may after : List ℕ → Type 0) (end : ℕ) → IsJournalSettled seen may end → 19 < end → Torn 19 1 seen new → Holds new 19 (0 ∷ []) → Only new after → IsJournalSettled new after 19 × (file_entries new ≡ [])
 clear_ok seen new may after end s some torn holds only =
     let there = regated seen may end new s.ends.frames s refl some torn in
     let behind = there.1 ++ s.ends.gate ∷ s.ends.junk in
@@ -41,7 +41,7 @@ clear_ok seen new may after end s some torn holds only =
     )
 
 -- a settled file with no frame
-pub nothing_counts : (seen : List ℕ) (may : List ℕ → Type 0) (end : ℕ) → IsSettled seen may end → end ≤ 19 → file_entries seen ≡ []
+pub nothing_counts : (seen : List ℕ) (may : List ℕ → Type 0) (end : ℕ) → IsJournalSettled seen may end → end ≤ 19 → file_entries seen ≡ []
 nothing_counts seen may end s le = none s.ends.frames (file_entries seen) (omega (arith, le, s.ends.size, length-append file_head s.ends.frames, length-head)) s.ends.bring
   where
     none : (frames : List ℕ) (ps : List (List ℕ)) → length frames ≡ 0 → Bring frames ps → ps ≡ []

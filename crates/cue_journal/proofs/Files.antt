@@ -6,10 +6,10 @@ use Rattle.std.proofs.lemmas.Slice.Eq.{bytes_eq-Decides}
 use Rattle.std.proofs.lemmas.Nat.{from_be_bytes-to_be_bytes_8}
 use Rattle.std.specs.Int.{w64, to_be_bytes}
 use Rattle.std.specs.Str.{bytes_eq}
-use Rattle.cue_journal.specs.Blocks.{recovered}
+use Rattle.cue_journal.specs.Blocks.{recovered_pieces}
 use Rattle.cue_journal.specs.Frames.{file_head, is_open_gate, checksum, next_batch, scan, file_entries, sealed, Bring, IsShut, IsSound, IsScannedTo}
 use Rattle.sqlite_disk.specs.Disk.{Holds, Torn, Only}
-use Rattle.cue_journal.specs.Settled.{EndsAt, IsSettled, IsBeforeOrAfter, IsKeptOrCleared}
+use Rattle.cue_journal.specs.Settled.{EndsAt, IsJournalSettled, IsBeforeOrAfter, IsKeptOrCleared}
 use Rattle.cue_journal.proofs.Torn.{held}
 use Rattle.cue_journal.proofs.Scanning.{frame_there, is_frame, bring_frame, bring_more, bring_shut, bring_nothing, scan-next, scan-none, scan-shut, next-gates, length-checksum, none_some, next-shut}
 
@@ -50,7 +50,7 @@ sound_there file frames rest ps gate is bring shut =
 pub ends_sound : (file : List ℕ) (end : ℕ) → EndsAt file end → IsSound file
 ends_sound file end e = sound_there file e.frames e.junk (file_entries file) e.gate e.split e.bring e.shut
 
-pub settled_sound : (seen : List ℕ) (may : List ℕ → Type 0) (end : ℕ) → IsSettled seen may end → (c : List ℕ) → may c → IsSound c
+pub settled_sound : (seen : List ℕ) (may : List ℕ → Type 0) (end : ℕ) → IsJournalSettled seen may end → (c : List ℕ) → may c → IsSound c
 settled_sound seen may end s c left = subst IsSound (sym (s.durable c left)) (ends_sound seen end s.ends)
 
 pub ends_there : (file frames rest : List ℕ) (ps : List (List ℕ)) (gate end : ℕ) → file ≡ (file_head ++ frames) ++ gate ∷ rest → Bring frames ps → is_open_gate gate ≡ false → end ≡ length (file_head ++ frames) → EndsAt file end
@@ -76,7 +76,7 @@ unfolding lib.Count.ones
 full_open = refl
 
 -- a batch behind an open gate
-pub opened_bring : (gate : ℕ) (batch : List ℕ) → is_open_gate gate ≡ true → length batch < 2 ^ 64 → Bring (gate ∷ (to_be_bytes w64 (length batch) ++ checksum batch ++ batch)) (recovered batch)
+pub opened_bring : (gate : ℕ) (batch : List ℕ) → is_open_gate gate ≡ true → length batch < 2 ^ 64 → Bring (gate ∷ (to_be_bytes w64 (length batch) ++ checksum batch ++ batch)) (recovered_pieces batch)
 opened_bring gate batch opened fits rest =
     scan-next ((gate ∷ (to_be_bytes w64 (length batch) ++ checksum batch ++ batch)) ++ rest) (batch, rest) (
     ap (λ (l : List ℕ). next_batch (gate ∷ (to_be_bytes w64 (length batch) ++ l))) (append_assoc (checksum batch) batch rest)
@@ -102,7 +102,7 @@ pub record IsAdded (file frames batch : List ℕ) (ps : List (List ℕ)) : Type 
   pub junk : List ℕ
   pub split : file ≡ (file_head ++ more) ++ 0 ∷ junk
   pub size : length (file_head ++ more) ≡ length (file_head ++ frames) + (length batch + 17)
-  pub bring : Bring more (ps ++ recovered batch)
+  pub bring : Bring more (ps ++ recovered_pieces batch)
 
 pub added : (file frames batch junk : List ℕ) (ps : List (List ℕ)) (gate : ℕ) → Bring frames ps → length batch < 2 ^ 64 → is_open_gate gate ≡ true
     → file ≡ (file_head ++ frames) ++ gate ∷ (sealed batch ++ junk) → IsAdded file frames batch ps
@@ -113,17 +113,17 @@ added file frames batch junk ps gate bring fits opened is =
       junk = junk;
       split = is ∙ opened_shape (file_head ++ frames) batch junk gate ∙ ap (λ (l : List ℕ). l ++ 0 ∷ junk) (append_assoc file_head frames whole);
       size = ap length (sym (append_assoc file_head frames whole)) ∙ length-append (file_head ++ frames) whole ∙ ap (λ n. length (file_head ++ frames) + n) (omega (arith, length-opened batch));
-      bring = bring_more frames whole ps (recovered batch) bring (opened_bring gate batch opened fits);
+      bring = bring_more frames whole ps (recovered_pieces batch) bring (opened_bring gate batch opened fits);
     }
 
 -- whatever the gate is, the batch counts whole or not at all
 pub before_or_after : (file frames batch junk : List ℕ) (ps : List (List ℕ)) (gate : ℕ) → Bring frames ps → length batch < 2 ^ 64
-    → file ≡ (file_head ++ frames) ++ gate ∷ (sealed batch ++ junk) → IsBeforeOrAfter ps (recovered batch) file × IsSound file
+    → file ≡ (file_head ++ frames) ++ gate ∷ (sealed batch ++ junk) → IsBeforeOrAfter ps (recovered_pieces batch) file × IsSound file
 before_or_after file frames batch junk ps gate bring fits is = elim (cases_Bool (is_open_gate gate)) [
   | inl opened ↦
       let there = added file frames batch junk ps gate bring fits opened is in (
-        inr (entries_there file there.more there.junk (ps ++ recovered batch) 0 there.split there.bring zero_shut),
-        sound_there file there.more there.junk (ps ++ recovered batch) 0 there.split there.bring zero_shut,
+        inr (entries_there file there.more there.junk (ps ++ recovered_pieces batch) 0 there.split there.bring zero_shut),
+        sound_there file there.more there.junk (ps ++ recovered_pieces batch) 0 there.split there.bring zero_shut,
       )
   | inr shut ↦ (
     inl (entries_there file frames (sealed batch ++ junk) ps gate is bring shut),
@@ -174,13 +174,13 @@ pub record IsScanning (frames rest : List ℕ) (entries : List (List ℕ)) : Typ
 pub scan_nothing : (frames : List ℕ) → IsScanning frames frames []
 scan_nothing frames = record { front = []; split = refl; bring = bring_nothing }
 
-pub scan_more : (frames rest : List ℕ) (entries : List (List ℕ)) (found : List ℕ × List ℕ) → IsScanning frames rest entries → next_batch rest ≡ Some found → IsScanning frames found.1 (entries ++ recovered found.0)
+pub scan_more : (frames rest : List ℕ) (entries : List (List ℕ)) (found : List ℕ × List ℕ) → IsScanning frames rest entries → next_batch rest ≡ Some found → IsScanning frames found.1 (entries ++ recovered_pieces found.0)
 scan_more frames rest entries found so_far is =
     let there = is_frame rest found is in
     record {
       front = so_far.front ++ there.head;
       split = so_far.split ∙ ap (λ (l : List ℕ). so_far.front ++ l) there.split ∙ sym (append_assoc so_far.front there.head found.1);
-      bring = bring_more so_far.front there.head entries (recovered found.0) so_far.bring (bring_frame rest found there);
+      bring = bring_more so_far.front there.head entries (recovered_pieces found.0) so_far.bring (bring_frame rest found there);
     }
 
 scan_is : (frames rest : List ℕ) (entries : List (List ℕ)) → IsScanning frames rest entries → next_batch rest ≡ None → scan frames ≡ (entries, rest)
@@ -239,7 +239,7 @@ no_gate file frames rest long is there none (inr sound) =
 
 -- a new file
 pub created : (seen new first : List ℕ) (after : List ℕ → Type 0) → length seen ≤ 20 → Torn 0 (length first) seen new → Holds new 0 first → Only new after → first ≡ file_head ++ 0 ∷ []
-    → IsSettled new after 19 × (file_entries new ≡ [])
+    → IsJournalSettled new after 19 × (file_entries new ≡ [])
 created seen new first after short torn holds only is =
     let long : length first ≡ 20 = omega (arith, ap length is, length-append file_head (0 ∷ []), length-head) in
     let none : drop (length first) new ≡ [] = drop_all (length first) new (omega (arith, short, long, torn.no_longer)) in

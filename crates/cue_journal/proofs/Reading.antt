@@ -5,7 +5,7 @@ use Rattle.std.proofs.lemmas.Bool.{cases_eq, cases_lt}
 use Rattle.std.proofs.lemmas.Bool.Decides.{nat_tests}
 use Rattle.std.proofs.lemmas.Nat.{from_be_bytes-to_be_bytes_4}
 use Rattle.std.specs.Int.{w32, to_be_bytes, from_be_bytes}
-use Rattle.cue_journal.specs.Blocks.{split_at, next_piece, with_others, recovered_up_to, recovered, block, Fits, StandsFor, IsScanned}
+use Rattle.cue_journal.specs.Blocks.{split_at, next_piece, with_others, recovered_up_to, recovered_pieces, block, FitsInBlock, StandsFor, IsScanned}
 use Rattle.cue_journal.specs.Settled.{IsBatch}
 
 pub split_whole : (n : ℕ) (rest : List ℕ) → n ≤ length rest → split_at n rest ≡ Some (take n rest, drop n rest)
@@ -22,7 +22,7 @@ split_there piece rest =
     ∙ ap (λ (l : List ℕ). Some (piece, l)) (drop_at piece rest _ refl)
 
 -- the head of a block is read as it was written
-pub next-block : (piece rest : List ℕ) → Fits piece → next_piece (block piece ++ rest) ≡ Some (piece, rest)
+pub next-block : (piece rest : List ℕ) → FitsInBlock piece → next_piece (block piece ++ rest) ≡ Some (piece, rest)
 next-block piece rest fits =
     ap (λ n. split_at n (piece ++ rest)) (from_be_bytes-to_be_bytes_4 (length piece) fits) ∙ split_there piece rest
 
@@ -78,17 +78,17 @@ turns (suc m) (suc n) file le ge =
     others_same (recovered_up_to m) (recovered_up_to n) (next_piece file)
     (λ found is. turns m n found.1 (omega (arith, next_shorter file found is)) (omega (arith, next_shorter file found is)))
 
-one_turn : (file : List ℕ) → recovered file ≡ with_others (recovered_up_to (length file)) (next_piece file)
+one_turn : (file : List ℕ) → recovered_pieces file ≡ with_others (recovered_up_to (length file)) (next_piece file)
 one_turn file = turns (length file) (suc (length file)) file (omega arith) (omega arith)
 
-pub recovered-next : (file : List ℕ) (found : List ℕ × List ℕ) → next_piece file ≡ Some found → recovered file ≡ found.0 ∷ recovered found.1
-recovered-next file found is =
+pub recovered_pieces-next : (file : List ℕ) (found : List ℕ × List ℕ) → next_piece file ≡ Some found → recovered_pieces file ≡ found.0 ∷ recovered_pieces found.1
+recovered_pieces-next file found is =
     one_turn file
     ∙ ap (with_others (recovered_up_to (length file))) is
     ∙ ap (λ (l : List (List ℕ)). found.0 ∷ l) (turns (length file) (length found.1) found.1 (omega (arith, next_shorter file found is)) (omega arith))
 
-pub recovered-none : (file : List ℕ) → next_piece file ≡ None → recovered file ≡ []
-recovered-none file is = one_turn file ∙ ap (with_others (recovered_up_to (length file))) is
+pub recovered_pieces-none : (file : List ℕ) → next_piece file ≡ None → recovered_pieces file ≡ []
+recovered_pieces-none file is = one_turn file ∙ ap (with_others (recovered_up_to (length file))) is
 
 pub next-closed : (gate : ℕ) (rest : List ℕ) → gate ≢ 1 → next_piece (gate ∷ rest) ≡ None
 next-closed g [] shut = refl
@@ -97,8 +97,8 @@ next-closed g (a ∷ b ∷ []) shut = refl
 next-closed g (a ∷ b ∷ c ∷ []) shut = refl
 next-closed g (a ∷ b ∷ c ∷ d ∷ rest) shut = grind (arith, nat_tests)
 
-pub recovered-closed : (gate : ℕ) (rest : List ℕ) → gate ≢ 1 → recovered (gate ∷ rest) ≡ []
-recovered-closed gate rest shut = recovered-none (gate ∷ rest) (next-closed gate rest shut)
+pub recovered_pieces-closed : (gate : ℕ) (rest : List ℕ) → gate ≢ 1 → recovered_pieces (gate ∷ rest) ≡ []
+recovered_pieces-closed gate rest shut = recovered_pieces-none (gate ∷ rest) (next-closed gate rest shut)
 
 -- bytes that stand for pieces
 
@@ -107,20 +107,20 @@ stands_nothing rest = refl
 
 pub stands_more : (x y : List ℕ) (ps qs : List (List ℕ)) → StandsFor x ps → StandsFor y qs → StandsFor (x ++ y) (ps ++ qs)
 stands_more x y ps qs first second rest =
-    ap recovered (append_assoc x y rest)
+    ap recovered_pieces (append_assoc x y rest)
     ∙ first (y ++ rest)
     ∙ ap (λ (l : List (List ℕ)). ps ++ l) (second rest)
-    ∙ sym (append_assoc ps qs (recovered rest))
+    ∙ sym (append_assoc ps qs (recovered_pieces rest))
 
-pub stands_alone : (x : List ℕ) (ps : List (List ℕ)) → StandsFor x ps → recovered x ≡ ps
-stands_alone x ps stands = ap recovered (sym (append-nil x)) ∙ stands [] ∙ append-nil ps
+pub stands_alone : (x : List ℕ) (ps : List (List ℕ)) → StandsFor x ps → recovered_pieces x ≡ ps
+stands_alone x ps stands = ap recovered_pieces (sym (append-nil x)) ∙ stands [] ∙ append-nil ps
 
-pub stands_closed : (x : List ℕ) (ps : List (List ℕ)) (gate : ℕ) (rest : List ℕ) → StandsFor x ps → gate ≢ 1 → recovered (x ++ gate ∷ rest) ≡ ps
+pub stands_closed : (x : List ℕ) (ps : List (List ℕ)) (gate : ℕ) (rest : List ℕ) → StandsFor x ps → gate ≢ 1 → recovered_pieces (x ++ gate ∷ rest) ≡ ps
 stands_closed x ps gate rest stands shut =
-    stands (gate ∷ rest) ∙ ap (λ (l : List (List ℕ)). ps ++ l) (recovered-closed gate rest shut) ∙ append-nil ps
+    stands (gate ∷ rest) ∙ ap (λ (l : List (List ℕ)). ps ++ l) (recovered_pieces-closed gate rest shut) ∙ append-nil ps
 
-pub stands_block : (piece : List ℕ) → Fits piece → StandsFor (block piece) (piece ∷ [])
-stands_block piece fits rest = recovered-next (block piece ++ rest) (piece, rest) (next-block piece rest fits)
+pub stands_block : (piece : List ℕ) → FitsInBlock piece → StandsFor (block piece) (piece ∷ [])
+stands_block piece fits rest = recovered_pieces-next (block piece ++ rest) (piece, rest) (next-block piece rest fits)
 
 -- the first block, and what follows it
 pub record FirstBlock (file : List ℕ) (found : List ℕ × List ℕ) : Type 0 where
@@ -152,7 +152,7 @@ first_block (g ∷ a ∷ b ∷ c ∷ d ∷ rest) found is = elim (cases_eq g 1) 
     same p e = cc
 
     whole : (piece : List ℕ) → length piece ≡ n → StandsFor (1 ∷ a ∷ b ∷ c ∷ d ∷ piece) (piece ∷ [])
-    whole piece size more = recovered-next (1 ∷ a ∷ b ∷ c ∷ d ∷ piece ++ more) (piece, more) (ap (λ m. split_at m (piece ++ more)) (sym size) ∙ split_there piece more)
+    whole piece size more = recovered_pieces-next (1 ∷ a ∷ b ∷ c ∷ d ∷ piece ++ more) (piece, more) (ap (λ m. split_at m (piece ++ more)) (sym size) ∙ split_there piece more)
 
     at_open : g ≡ 1 → (length rest < n) ⊎ (n ≤ length rest) → FirstBlock (g ∷ a ∷ b ∷ c ∷ d ∷ rest) found
     at_open open_gate (inl lt) = absurd (no (sym (split_short n rest lt) ∙ opened open_gate))
@@ -183,9 +183,9 @@ read_more file rest pieces found so_far is =
       stands = stands_more so_far.front b.head pieces (found.0 ∷ []) so_far.stands b.stands;
     }
 
-pub read_all : (file rest : List ℕ) (pieces : List (List ℕ)) → IsRead file rest pieces → next_piece rest ≡ None → recovered file ≡ pieces
+pub read_all : (file rest : List ℕ) (pieces : List (List ℕ)) → IsRead file rest pieces → next_piece rest ≡ None → recovered_pieces file ≡ pieces
 read_all file rest pieces so_far none =
-    ap recovered so_far.split ∙ so_far.stands rest ∙ ap (λ (l : List (List ℕ)). pieces ++ l) (recovered-none rest none) ∙ append-nil pieces
+    ap recovered_pieces so_far.split ∙ so_far.stands rest ∙ ap (λ (l : List (List ℕ)). pieces ++ l) (recovered_pieces-none rest none) ∙ append-nil pieces
 
 pub read_size : (file rest : List ℕ) (pieces : List (List ℕ)) → (so_far : IsRead file rest pieces) → length file ≡ length so_far.front + length rest
 read_size file rest pieces so_far = ap length so_far.split ∙ length-append so_far.front rest
@@ -199,11 +199,11 @@ read_rest file rest pieces so_far =
     ap (drop (length file - length rest)) so_far.split ∙ drop_at so_far.front rest _ (omega (arith, read_size file rest pieces so_far))
 
 -- a batch with one block more
-pub batch_more : (old new piece : List ℕ) → IsBatch old → Fits piece → new ≡ old ++ block piece → IsBatch new × (recovered new ≡ recovered old ++ piece ∷ [])
+pub batch_more : (old new piece : List ℕ) → IsBatch old → FitsInBlock piece → new ≡ old ++ block piece → IsBatch new × (recovered_pieces new ≡ recovered_pieces old ++ piece ∷ [])
 batch_more old new piece batch fits is =
-    let stands : StandsFor (old ++ block piece) (recovered old ++ piece ∷ []) = stands_more old (block piece) (recovered old) (piece ∷ []) batch.stands (stands_block piece fits) in
-    let pieces : recovered (old ++ block piece) ≡ recovered old ++ piece ∷ [] = stands_alone (old ++ block piece) (recovered old ++ piece ∷ []) stands in
-    subst (λ (l : List ℕ). IsBatch l × (recovered l ≡ recovered old ++ piece ∷ [])) (sym is) (
+    let stands : StandsFor (old ++ block piece) (recovered_pieces old ++ piece ∷ []) = stands_more old (block piece) (recovered_pieces old) (piece ∷ []) batch.stands (stands_block piece fits) in
+    let pieces : recovered_pieces (old ++ block piece) ≡ recovered_pieces old ++ piece ∷ [] = stands_alone (old ++ block piece) (recovered_pieces old ++ piece ∷ []) stands in
+    subst (λ (l : List ℕ). IsBatch l × (recovered_pieces l ≡ recovered_pieces old ++ piece ∷ [])) (sym is) (
       record {
         stands = subst (StandsFor (old ++ block piece)) (sym pieces) stands;
         opens = inr (opens batch.opens);
@@ -218,12 +218,12 @@ batch_more old new piece batch fits is =
 pub scanned : (file rest : List ℕ) (pieces : List (List ℕ)) → IsRead file rest pieces → next_piece rest ≡ None → IsScanned file (length file - length rest)
 scanned file rest pieces so_far none = record {
   within = omega arith;
-  front = subst (λ (l : List ℕ). StandsFor l (recovered file)) (sym (read_front file rest pieces so_far)) (subst (StandsFor so_far.front) (sym (read_all file rest pieces so_far none)) so_far.stands);
+  front = subst (λ (l : List ℕ). StandsFor l (recovered_pieces file)) (sym (read_front file rest pieces so_far)) (subst (StandsFor so_far.front) (sym (read_all file rest pieces so_far none)) so_far.stands);
   none = ap next_piece (read_rest file rest pieces so_far) ∙ none;
 }
 
 -- the same, where the head was written with the length of a piece that begins with this byte
-pub batch_more_first : (old new : List ℕ) (n first : ℕ) (rest : List ℕ) → n ≡ length (first ∷ rest) → IsBatch old → Fits (first ∷ rest) → new ≡ old ++ (1 ∷ to_be_bytes w32 n ++ first ∷ rest)
-    → IsBatch new × (recovered new ≡ recovered old ++ (first ∷ rest) ∷ [])
+pub batch_more_first : (old new : List ℕ) (n first : ℕ) (rest : List ℕ) → n ≡ length (first ∷ rest) → IsBatch old → FitsInBlock (first ∷ rest) → new ≡ old ++ (1 ∷ to_be_bytes w32 n ++ first ∷ rest)
+    → IsBatch new × (recovered_pieces new ≡ recovered_pieces old ++ (first ∷ rest) ∷ [])
 batch_more_first old new n first rest size batch fits is =
     batch_more old new (first ∷ rest) batch fits (is ∙ ap (λ m. old ++ (1 ∷ to_be_bytes w32 m ++ first ∷ rest)) size)

@@ -6,7 +6,7 @@ use Rattle.std.specs.Int.{w64, from_be_bytes}
 use Rattle.std.specs.Str.{bytes_eq}
 use Rattle.sha2.specs.Sha256.{sha256}
 use Rattle.sha2.proofs.Facts256.{length-sha256}
-use Rattle.cue_journal.specs.Blocks.{recovered, split_at}
+use Rattle.cue_journal.specs.Blocks.{recovered_pieces, split_at}
 use Rattle.cue_journal.specs.Frames.{is_open_gate, checksum, checked, summed, next_batch, with_batch, scan_up_to, scan, Bring}
 use Rattle.cue_journal.proofs.Reading.{split_whole, split_short, split_there}
 
@@ -109,7 +109,7 @@ frame_shorter file found is =
 -- with turns enough, more of them make no difference
 batch_same : (f g : List ℕ → List (List ℕ) × List ℕ) (frames : List ℕ) (o : Option (List ℕ × List ℕ)) → ((found : List ℕ × List ℕ) → o ≡ Some found → f found.1 ≡ g found.1) → with_batch f frames o ≡ with_batch g frames o
 batch_same f g frames None same = refl
-batch_same f g frames (Some found) same = ap (λ (p : List (List ℕ) × List ℕ). (recovered found.0 ++ p.0, p.1)) (same found refl)
+batch_same f g frames (Some found) same = ap (λ (p : List (List ℕ) × List ℕ). (recovered_pieces found.0 ++ p.0, p.1)) (same found refl)
 
 scan_turns : (m n : ℕ) (frames : List ℕ) → length frames ≤ m → length frames ≤ n → scan_up_to m frames ≡ scan_up_to n frames
 scan_turns zero zero frames le ge = refl
@@ -125,12 +125,12 @@ scan_turn : (frames : List ℕ) → scan frames ≡ with_batch (scan_up_to (leng
 unfolding scan
 scan_turn frames = scan_turns (length frames) (suc (length frames)) frames (omega arith) (omega arith)
 
-pub scan-next : (frames : List ℕ) (found : List ℕ × List ℕ) → next_batch frames ≡ Some found → scan frames ≡ (recovered found.0 ++ (scan found.1).0, (scan found.1).1)
+pub scan-next : (frames : List ℕ) (found : List ℕ × List ℕ) → next_batch frames ≡ Some found → scan frames ≡ (recovered_pieces found.0 ++ (scan found.1).0, (scan found.1).1)
 unfolding scan
 scan-next frames found is =
     scan_turn frames
     ∙ ap (with_batch (scan_up_to (length frames)) frames) is
-    ∙ ap (λ (p : List (List ℕ) × List ℕ). (recovered found.0 ++ p.0, p.1)) (scan_turns (length frames) (length found.1) found.1 (omega (arith, frame_shorter frames found is)) (omega arith))
+    ∙ ap (λ (p : List (List ℕ) × List ℕ). (recovered_pieces found.0 ++ p.0, p.1)) (scan_turns (length frames) (length found.1) found.1 (omega (arith, frame_shorter frames found is)) (omega arith))
 
 pub scan-none : (frames : List ℕ) → next_batch frames ≡ None → scan frames ≡ ([], frames)
 unfolding scan
@@ -182,7 +182,7 @@ bring_shut x ps gate rest bring shut =
     ∙ ap (λ (p : List (List ℕ) × List ℕ). (ps ++ p.0, p.1)) (scan-shut gate rest shut)
     ∙ ap (λ (l : List (List ℕ)). (l, gate ∷ rest)) (append-nil ps)
 
-pub bring_frame : (file : List ℕ) (found : List ℕ × List ℕ) → (there : IsFrame file found) → Bring there.head (recovered found.0)
+pub bring_frame : (file : List ℕ) (found : List ℕ × List ℕ) → (there : IsFrame file found) → Bring there.head (recovered_pieces found.0)
 bring_frame file found there rest = scan-next (there.head ++ rest) (found.0, rest) (there.again rest)
 
 pub length-checksum : (batch : List ℕ) → length (checksum batch) ≡ 8

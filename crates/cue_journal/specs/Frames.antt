@@ -6,7 +6,7 @@ use Rattle.std.specs.Prelude.{length, take, drop, codes, count_ones, if◌then�
 use Rattle.std.specs.Int.{w64, to_be_bytes, from_be_bytes}
 use Rattle.std.specs.Str.{bytes_eq}
 use Rattle.sha2.specs.Sha256.{sha256}
-use Rattle.cue_journal.specs.Blocks.{recovered, split_at}
+use Rattle.cue_journal.specs.Blocks.{recovered_pieces, split_at}
 
 -- what each file begins with: the name of the format, and its number
 unfoldable pub file_head : List ℕ
@@ -39,7 +39,7 @@ next_batch rest = None
 -- the entries of a batch in front of those that others bring
 abbrev pub with_batch : (List ℕ → List (List ℕ) × List ℕ) → List ℕ → Option (List ℕ × List ℕ) → List (List ℕ) × List ℕ
 with_batch others frames None = ([], frames)
-with_batch others frames (Some found) = (recovered found.0 ++ (others found.1).0, (others found.1).1)
+with_batch others frames (Some found) = (recovered_pieces found.0 ++ (others found.1).0, (others found.1).1)
 
 -- of at most so many frames
 abbrev pub scan_up_to : ℕ → List ℕ → List (List ℕ) × List ℕ

@@ -2,7 +2,7 @@ use Rattle.std.specs.Prelude.{Bool, ◌≡◌, ℕ, List, true}
 use Rattle.cue_journal.specs.declared.journal.Journal.{Journal}
 use Rattle.cue_journal.specs.declared.journal.Room.{Room}
 use Rattle.cue_journal.specs.declared.journal.Room.TheVariants.{Enough, Refused}
-use Rattle.cue_journal.specs.Settled.{IsSettled}
+use Rattle.cue_journal.specs.Settled.{IsJournalSettled}
 
 abbrev pub disk_of : {D : Type 0} → Journal D → D
 disk_of j = j.disk
@@ -12,12 +12,12 @@ abbrev pub end_of : {D : Type 0} → Journal D → ℕ
 end_of j = j.end
 
 -- no commit of it has failed
-abbrev pub is_open : {D : Type 0} → Journal D → Bool
-is_open j = j.open
+abbrev pub is_journal_open : {D : Type 0} → Journal D → Bool
+is_journal_open j = j.open
 
 -- it may be written to, and its file is as between two calls
-pub record IsReady {D : Type 0} (seen : D → List ℕ) (may_leave : D → List ℕ → Type 0) (j : Journal D) : Type 0 where
-  pub settled : IsSettled (seen j.disk) (may_leave j.disk) j.end
+pub record IsJournalReady {D : Type 0} (seen : D → List ℕ) (may_leave : D → List ℕ → Type 0) (j : Journal D) : Type 0 where
+  pub settled : IsJournalSettled (seen j.disk) (may_leave j.disk) j.end
   pub open_still : j.open ≡ true
 
 -- the disk had room

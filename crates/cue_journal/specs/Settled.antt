@@ -1,7 +1,7 @@
 -- What a journal's file is between two calls, and within one.
 use Rattle.std.specs.Prelude.{◌≡◌, ◌⊎◌, ℕ, false, List, [], ◌∷◌, ◌++◌, length}
 use Rattle.sqlite_disk.specs.Disk.{Only}
-use Rattle.cue_journal.specs.Blocks.{recovered, StandsFor}
+use Rattle.cue_journal.specs.Blocks.{recovered_pieces, StandsFor}
 use Rattle.cue_journal.specs.Frames.{file_head, file_entries, is_open_gate, Bring, IsSound}
 
 -- the head, whole frames up to `end`, and then a gate that is closed
@@ -15,7 +15,7 @@ pub record EndsAt (file : List ℕ) (end : ℕ) : Type 0 where
   pub bring : Bring frames (file_entries file)
 
 -- all of it on the disk
-pub record IsSettled (seen : List ℕ) (may_leave : List ℕ → Type 0) (end : ℕ) : Type 0 where
+pub record IsJournalSettled (seen : List ℕ) (may_leave : List ℕ → Type 0) (end : ℕ) : Type 0 where
   pub ends : EndsAt seen end
   pub durable : Only seen may_leave
 
@@ -30,7 +30,7 @@ pub record IsStaged (seen : List ℕ) (may_leave : List ℕ → Type 0) (end : �
 
 -- whole blocks, of which the first is the next to be opened
 pub record IsBatch (bytes : List ℕ) : Type 0 where
-  pub stands : StandsFor bytes (recovered bytes)
+  pub stands : StandsFor bytes (recovered_pieces bytes)
   pub opens : (bytes ≡ []) ⊎ ((rest : List ℕ) × (bytes ≡ 1 ∷ rest))
 
 -- the file has the entries, with some more or without them

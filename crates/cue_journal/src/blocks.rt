@@ -1,7 +1,7 @@
 ghost use Rattle.std.specs.Prelude.{ℕ, List, ◌≡◌, ◌+◌, ◌-◌, ◌<◌, ◌≤◌, ◌^◌, ◌==◌, ◌↔◌, ◌++◌, []};
 ghost use Rattle.std.specs.Prelude.{◌∷◌, length, take, drop, map, None, Some, MatchOption, IfOk};
 ghost use Rattle.std.specs.Prelude.{OnOk, OnErr, IsErrOf};
-ghost use Rattle.cue_journal.specs.Blocks.{next_piece, recovered, IsScanned};
+ghost use Rattle.cue_journal.specs.Blocks.{next_piece, recovered_pieces, IsScanned};
 ghost use Rattle.cue_journal.specs.Settled.{IsBatch};
 ghost use Rattle.cue_journal.specs.Frames.{sealed};
 
@@ -25,7 +25,7 @@ pub(crate) fn first_piece(bytes: &[u8]) -> Option<(&[u8], &[u8])>
 
 /// The pieces of the blocks that count, and where these blocks end.
 pub fn read_pieces(alloc: Global, bytes: &[u8]) -> Result<(Vec<Vec<u8>>, usize), AllocError>
-    ensures pieces { IfOk result (λ r. map (λ v. v.items) r.0.items ≡ recovered bytes.now) }
+    ensures pieces { IfOk result (λ r. map (λ v. v.items) r.0.items ≡ recovered_pieces bytes.now) }
     ensures end { IfOk result (λ r. IsScanned bytes.now r.1) }
 {
     let mut pieces = Vec::new(alloc);
@@ -39,7 +39,7 @@ pub fn read_pieces(alloc: Global, bytes: &[u8]) -> Result<(Vec<Vec<u8>>, usize),
 
 /// Why an entry does not fit into a batch.
 #[derive(Clone, Copy, Debug, PartialEq, Eq)]
-pub enum Unfit {
+pub enum BlockError {
     /// The entry has 4 GiB or more.
     TooLong,
     OutOfMemory(AllocError),
@@ -81,10 +81,10 @@ impl Batch {
     ///
     /// `TooLong` for an entry of 4 GiB and no other, and `OutOfMemory`. The batch is then as
     /// before.
-    pub fn push(&mut self, first: u8, rest: &[u8]) -> Result<(), Unfit>
+    pub fn push(&mut self, first: u8, rest: &[u8]) -> Result<(), BlockError>
         ensures ok { OnOk result (IsBatch (batch_bytes self.old) → IsBatch (batch_bytes self.new)
-            × (recovered (batch_bytes self.new)
-            ≡ recovered (batch_bytes self.old) ++ (first ∷ rest.now) ∷ [])) }
+            × (recovered_pieces (batch_bytes self.new)
+            ≡ recovered_pieces (batch_bytes self.old) ++ (first ∷ rest.now) ∷ [])) }
         ensures fits { OnOk result (length rest.now < 2 ^ 32) }
         ensures long { IsErrOf result Unfit.TooLong ↔ (2 ^ 32 ≤ length rest.now + 1) }
         ensures appends { OnOk result ((more : List ℕ)
@@ -92,7 +92,7 @@ impl Batch {
         ensures err { OnErr result (batch_bytes self.new ≡ batch_bytes self.old) }
     {
         if rest.len() >= u32::MAX as usize {
-            return Err(Unfit::TooLong);
+            return Err(BlockError::TooLong);
         }
         let head = (rest.len() as u32 + 1).to_be_bytes();
         let old = self.bytes.len();
@@ -100,7 +100,7 @@ impl Batch {
             Ok(()) => Ok(()),
             Err(error) => {
                 self.bytes.truncate(old);
-                Err(Unfit::OutOfMemory(error))
+                Err(BlockError::OutOfMemory(error))
             }
         }
     }

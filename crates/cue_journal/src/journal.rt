@@ -1,9 +1,9 @@
 ghost use Rattle.std.specs.Prelude.{◌≡◌, ◌≢◌, ◌⊎◌, ◌+◌, ◌<◌, ◌≤◌, ◌^◌, ◌++◌, [], ◌∷◌, ℕ, List};
 ghost use Rattle.std.specs.Prelude.{length, map, true, false, IsTrue, IfOk, IfErr, OnOk, OnErr};
 ghost use Rattle.sqlite_disk.specs.Disk.{Only};
-ghost use Rattle.cue_journal.specs.Blocks.{recovered};
+ghost use Rattle.cue_journal.specs.Blocks.{recovered_pieces};
 ghost use Rattle.cue_journal.specs.Frames.{file_head, file_entries, IsSound};
-ghost use Rattle.cue_journal.specs.Settled.{IsSettled, IsBatch, IsBeforeOrAfter, IsKeptOrCleared, LeavesSound};
+ghost use Rattle.cue_journal.specs.Settled.{IsJournalSettled, IsBatch, IsBeforeOrAfter, IsKeptOrCleared, LeavesSound};
 ghost use Rattle.cue_journal.specs.Settled.{EndsAt, IsStaged};
 ghost use Rattle.cue_journal.specs.Batches.{batch_bytes};
 ghost use Rattle.cue_journal.specs.Damage.{IsDamage};
@@ -38,10 +38,10 @@ fn stage<D: Disk>(disk: &mut D, end: usize, bytes: &[u8]) -> io::Result<()>
     requires usable { IsTrue (D.is_usable disk.old) }
     requires end { end ≤ MOST }
     requires some { 0 < length bytes.now }
-    ensures crash { (s : IsSettled (D.seen disk.old) (D.may_leave disk.old) end) → (c : List ℕ)
+    ensures crash { (s : IsJournalSettled (D.seen disk.old) (D.may_leave disk.old) end) → (c : List ℕ)
         → D.may_leave disk.new c → file_entries c ≡ file_entries (D.seen disk.old) }
-    ensures sound { IsSettled (D.seen disk.old) (D.may_leave disk.old) end → LeavesSound (D.may_leave disk.new) }
-    ensures ok { OnOk result ((s : IsSettled (D.seen disk.old) (D.may_leave disk.old) end)
+    ensures sound { IsJournalSettled (D.seen disk.old) (D.may_leave disk.old) end → LeavesSound (D.may_leave disk.new) }
+    ensures ok { OnOk result ((s : IsJournalSettled (D.seen disk.old) (D.may_leave disk.old) end)
         → IsStaged (D.seen disk.new) (D.may_leave disk.new) end (file_head ++ s.ends.frames) bytes.now) }
     ensures usable { OnOk result (IsTrue (D.is_usable disk.new)) }
 {
@@ -67,11 +67,11 @@ pub enum Room {
 fn fill<D: Disk>(disk: &mut D, end: usize, bytes: &[u8]) -> io::Result<Room>
     requires usable { IsTrue (D.is_usable disk.old) }
     requires end { end ≤ MOST }
-    ensures crash { (s : IsSettled (D.seen disk.old) (D.may_leave disk.old) end) → (c : List ℕ)
+    ensures crash { (s : IsJournalSettled (D.seen disk.old) (D.may_leave disk.old) end) → (c : List ℕ)
         → D.may_leave disk.new c → file_entries c ≡ file_entries (D.seen disk.old) }
-    ensures sound { IsSettled (D.seen disk.old) (D.may_leave disk.old) end → LeavesSound (D.may_leave disk.new) }
-    ensures ok { OnOk result (IsSettled (D.seen disk.old) (D.may_leave disk.old) end
-        → IsSettled (D.seen disk.new) (D.may_leave disk.new) end
+    ensures sound { IsJournalSettled (D.seen disk.old) (D.may_leave disk.old) end → LeavesSound (D.may_leave disk.new) }
+    ensures ok { OnOk result (IsJournalSettled (D.seen disk.old) (D.may_leave disk.old) end
+        → IsJournalSettled (D.seen disk.new) (D.may_leave disk.new) end
         × (file_entries (D.seen disk.new) ≡ file_entries (D.seen disk.old))) }
 {
     match disk.write_at(end + 1, bytes) {
@@ -105,13 +105,13 @@ fn open_gate<D: Disk>(disk: &mut D, end: usize) -> io::Result<()>
 /// Closes the gate of the first block, and has it reach the disk: from then on no block counts.
 fn close_first<D: Disk>(disk: &mut D) -> io::Result<()>
     requires usable { IsTrue (D.is_usable disk.old) }
-    ensures crash { (end : ℕ) → IsSettled (D.seen disk.old) (D.may_leave disk.old) end → 19 < end
+    ensures crash { (end : ℕ) → IsJournalSettled (D.seen disk.old) (D.may_leave disk.old) end → 19 < end
         → (c : List ℕ) → D.may_leave disk.new c → IsKeptOrCleared (file_entries (D.seen disk.old)) c }
-    ensures sound { (end : ℕ) → IsSettled (D.seen disk.old) (D.may_leave disk.old) end → 19 < end
+    ensures sound { (end : ℕ) → IsJournalSettled (D.seen disk.old) (D.may_leave disk.old) end → 19 < end
         → LeavesSound (D.may_leave disk.new) }
     ensures ok { OnOk result ((end : ℕ)
-        → IsSettled (D.seen disk.old) (D.may_leave disk.old) end → 19 < end
-        → IsSettled (D.seen disk.new) (D.may_leave disk.new) 19
+        → IsJournalSettled (D.seen disk.old) (D.may_leave disk.old) end → 19 < end
+        → IsJournalSettled (D.seen disk.new) (D.may_leave disk.new) 19
         × (file_entries (D.seen disk.new) ≡ [])) }
 {
     disk.write_at(HEAD.len(), &[0])?;
@@ -120,23 +120,23 @@ fn close_first<D: Disk>(disk: &mut D) -> io::Result<()>
 }
 
 impl<D: Disk> Journal<D> {
-    ghost use Rattle.cue_journal.specs.Journals.{disk_of, end_of, is_open, IsReady};
+    ghost use Rattle.cue_journal.specs.Journals.{disk_of, end_of, is_journal_open, IsJournalReady};
 
     /// Adds the pieces of a batch, all of them or none. At `Ok` they are acknowledged: from then on
     /// each crash leaves a file that has them. At `Err` the journal is to be opened again. The
     /// batch is empty afterwards.
     pub fn commit(&mut self, batch: &mut Batch) -> io::Result<()>
-        ensures acknowledged { OnOk result (IsReady D.Disk.seen D.Disk.may_leave self.old → IsBatch (batch_bytes batch.old)
-            → IsReady D.Disk.seen D.Disk.may_leave self.new
-            × (file_entries (D.Disk.seen (disk_of self.new)) ≡ file_entries (D.Disk.seen (disk_of self.old)) ++ recovered (batch_bytes batch.old))) }
+        ensures acknowledged { OnOk result (IsJournalReady D.Disk.seen D.Disk.may_leave self.old → IsBatch (batch_bytes batch.old)
+            → IsJournalReady D.Disk.seen D.Disk.may_leave self.new
+            × (file_entries (D.Disk.seen (disk_of self.new)) ≡ file_entries (D.Disk.seen (disk_of self.old)) ++ recovered_pieces (batch_bytes batch.old))) }
 
         // A crash at this moment leaves the pieces from before, with those of the batch or without.
-        ensures crash { IsReady D.Disk.seen D.Disk.may_leave self.old → IsBatch (batch_bytes batch.old)
+        ensures crash { IsJournalReady D.Disk.seen D.Disk.may_leave self.old → IsBatch (batch_bytes batch.old)
             → (c : List ℕ) → D.Disk.may_leave (disk_of self.new) c
-            → IsBeforeOrAfter (file_entries (D.Disk.seen (disk_of self.old))) (recovered (batch_bytes batch.old)) c }
-        ensures sound { IsReady D.Disk.seen D.Disk.may_leave self.old → LeavesSound (D.Disk.may_leave (disk_of self.new)) }
-        ensures open { OnOk result ((is_open self.old ≡ true) × (is_open self.new ≡ true)) }
-        ensures closed { OnErr result (is_open self.new ≡ false) }
+            → IsBeforeOrAfter (file_entries (D.Disk.seen (disk_of self.old))) (recovered_pieces (batch_bytes batch.old)) c }
+        ensures sound { IsJournalReady D.Disk.seen D.Disk.may_leave self.old → LeavesSound (D.Disk.may_leave (disk_of self.new)) }
+        ensures open { OnOk result ((is_journal_open self.old ≡ true) × (is_journal_open self.new ≡ true)) }
+        ensures closed { OnErr result (is_journal_open self.new ≡ false) }
         ensures empty { batch_bytes batch.new ≡ [] }
     {
         let done = self.write(batch);
@@ -150,17 +150,17 @@ impl<D: Disk> Journal<D> {
     ///
     /// The journal is to be opened again.
     pub fn clear(&mut self) -> io::Result<()>
-        ensures cleared { OnOk result (IsReady D.Disk.seen D.Disk.may_leave self.old
-            → IsReady D.Disk.seen D.Disk.may_leave self.new
+        ensures cleared { OnOk result (IsJournalReady D.Disk.seen D.Disk.may_leave self.old
+            → IsJournalReady D.Disk.seen D.Disk.may_leave self.new
             × (file_entries (D.Disk.seen (disk_of self.new)) ≡ [])) }
 
         // A crash at this moment leaves the entries as they were, or none.
-        ensures crash { IsReady D.Disk.seen D.Disk.may_leave self.old
+        ensures crash { IsJournalReady D.Disk.seen D.Disk.may_leave self.old
             → (c : List ℕ) → D.Disk.may_leave (disk_of self.new) c
             → IsKeptOrCleared (file_entries (D.Disk.seen (disk_of self.old))) c }
-        ensures sound { IsReady D.Disk.seen D.Disk.may_leave self.old → LeavesSound (D.Disk.may_leave (disk_of self.new)) }
-        ensures open { OnOk result ((is_open self.old ≡ true) × (is_open self.new ≡ true)) }
-        ensures closed { OnErr result (is_open self.new ≡ false) }
+        ensures sound { IsJournalReady D.Disk.seen D.Disk.may_leave self.old → LeavesSound (D.Disk.may_leave (disk_of self.new)) }
+        ensures open { OnOk result ((is_journal_open self.old ≡ true) × (is_journal_open self.new ≡ true)) }
+        ensures closed { OnErr result (is_journal_open self.new ≡ false) }
     {
         let was_open = self.open;
         self.open = false;
@@ -184,17 +184,17 @@ impl<D: Disk> Journal<D> {
     ///
     /// The journal is to be opened again.
     pub fn reserve(&mut self, batch: &Batch) -> io::Result<Room>
-        ensures same { OnOk result (IsReady D.Disk.seen D.Disk.may_leave self.old
-            → IsReady D.Disk.seen D.Disk.may_leave self.new
+        ensures same { OnOk result (IsJournalReady D.Disk.seen D.Disk.may_leave self.old
+            → IsJournalReady D.Disk.seen D.Disk.may_leave self.new
             × (file_entries (D.Disk.seen (disk_of self.new)) ≡ file_entries (D.Disk.seen (disk_of self.old)))) }
 
         // A crash at this moment leaves the entries as they were.
-        ensures crash { IsReady D.Disk.seen D.Disk.may_leave self.old
+        ensures crash { IsJournalReady D.Disk.seen D.Disk.may_leave self.old
             → (c : List ℕ) → D.Disk.may_leave (disk_of self.new) c
             → file_entries c ≡ file_entries (D.Disk.seen (disk_of self.old)) }
-        ensures sound { IsReady D.Disk.seen D.Disk.may_leave self.old → LeavesSound (D.Disk.may_leave (disk_of self.new)) }
-        ensures open { OnOk result ((is_open self.old ≡ true) × (is_open self.new ≡ true)) }
-        ensures closed { OnErr result (is_open self.new ≡ false) }
+        ensures sound { IsJournalReady D.Disk.seen D.Disk.may_leave self.old → LeavesSound (D.Disk.may_leave (disk_of self.new)) }
+        ensures open { OnOk result ((is_journal_open self.old ≡ true) × (is_journal_open self.new ≡ true)) }
+        ensures closed { OnErr result (is_journal_open self.new ≡ false) }
         ensures len { end_of self.new ≡ end_of self.old }
     {
         let was_open = self.open;
@@ -216,21 +216,21 @@ impl<D: Disk> Journal<D> {
 
     /// Whether no call has failed.
     pub fn is_open(&self) -> bool
-        ensures { result ≡ is_open self.now }
+        ensures { result ≡ is_journal_open self.now }
     {
         self.open
     }
 
     fn write(&mut self, batch: &mut Batch) -> io::Result<()>
-        ensures acknowledged { OnOk result (IsReady D.Disk.seen D.Disk.may_leave self.old → IsBatch (batch_bytes batch.old)
-            → IsReady D.Disk.seen D.Disk.may_leave self.new
-            × (file_entries (D.Disk.seen (disk_of self.new)) ≡ file_entries (D.Disk.seen (disk_of self.old)) ++ recovered (batch_bytes batch.old))) }
-        ensures crash { IsReady D.Disk.seen D.Disk.may_leave self.old → IsBatch (batch_bytes batch.old)
+        ensures acknowledged { OnOk result (IsJournalReady D.Disk.seen D.Disk.may_leave self.old → IsBatch (batch_bytes batch.old)
+            → IsJournalReady D.Disk.seen D.Disk.may_leave self.new
+            × (file_entries (D.Disk.seen (disk_of self.new)) ≡ file_entries (D.Disk.seen (disk_of self.old)) ++ recovered_pieces (batch_bytes batch.old))) }
+        ensures crash { IsJournalReady D.Disk.seen D.Disk.may_leave self.old → IsBatch (batch_bytes batch.old)
             → (c : List ℕ) → D.Disk.may_leave (disk_of self.new) c
-            → IsBeforeOrAfter (file_entries (D.Disk.seen (disk_of self.old))) (recovered (batch_bytes batch.old)) c }
-        ensures sound { IsReady D.Disk.seen D.Disk.may_leave self.old → LeavesSound (D.Disk.may_leave (disk_of self.new)) }
-        ensures open { OnOk result ((is_open self.old ≡ true) × (is_open self.new ≡ true)) }
-        ensures closed { OnErr result (is_open self.new ≡ false) }
+            → IsBeforeOrAfter (file_entries (D.Disk.seen (disk_of self.old))) (recovered_pieces (batch_bytes batch.old)) c }
+        ensures sound { IsJournalReady D.Disk.seen D.Disk.may_leave self.old → LeavesSound (D.Disk.may_leave (disk_of self.new)) }
+        ensures open { OnOk result ((is_journal_open self.old ≡ true) × (is_journal_open self.new ≡ true)) }
+        ensures closed { OnErr result (is_journal_open self.new ≡ false) }
     {
         let was_open = self.open;
         self.open = false;
@@ -273,7 +273,7 @@ fn create<D: Disk>(disk: &mut D) -> io::Result<()>
     ensures crash { Only (D.seen disk.old) (D.may_leave disk.old) → IsTrue (D.is_clean disk.new)
         → (c : List ℕ) → D.may_leave disk.new c → length c ≤ 20 }
     ensures ok { OnOk result (IsTrue (D.is_clean disk.new)
-        → IsSettled (D.seen disk.new) (D.may_leave disk.new) 19
+        → IsJournalSettled (D.seen disk.new) (D.may_leave disk.new) 19
         × (file_entries (D.seen disk.new) ≡ [])) }
     ensures clean { D.is_clean disk.new ≡ D.is_clean disk.old }
 {
@@ -293,7 +293,7 @@ pub fn recover<D: Disk>(alloc: Global, disk: &mut D) -> Result<(usize, Vec<Vec<u
     requires usable { IsTrue (D.is_usable disk.old) }
     ensures entries { IfOk result (λ r. IsTrue (D.is_clean disk.new)
         → (map (λ v. v.items) r.1.items ≡ file_entries (D.seen disk.old))
-        × IsSettled (D.seen disk.new) (D.may_leave disk.new) r.0
+        × IsJournalSettled (D.seen disk.new) (D.may_leave disk.new) r.0
         × (file_entries (D.seen disk.new) ≡ file_entries (D.seen disk.old))) }
 
     // A damaged file is refused, and no other is refused as damaged.
@@ -318,12 +318,12 @@ pub fn recover<D: Disk>(alloc: Global, disk: &mut D) -> Result<(usize, Vec<Vec<u
 }
 
 impl<D: Disk> Journal<D> {
-    ghost use Rattle.cue_journal.specs.Journals.{disk_of, is_open, IsReady};
+    ghost use Rattle.cue_journal.specs.Journals.{disk_of, is_journal_open, IsJournalReady};
 
     /// A journal over a file that was recovered, from where it goes on.
     pub fn new(disk: D, end: usize) -> Journal<D>
         ensures disk { disk_of result ≡ disk }
-        ensures ready { IsSettled (D.Disk.seen disk) (D.Disk.may_leave disk) end → IsReady D.Disk.seen D.Disk.may_leave result }
+        ensures ready { IsJournalSettled (D.Disk.seen disk) (D.Disk.may_leave disk) end → IsJournalReady D.Disk.seen D.Disk.may_leave result }
     {
         Journal {
             disk,

@@ -6,7 +6,7 @@ mod frames;
 mod journal;
 mod pair;
 
-pub use blocks::{Batch, Unfit, read_pieces};
+pub use blocks::{Batch, BlockError, read_pieces};
 pub use frames::{Unread, read_file};
 pub use journal::{Journal, Room, recover};
-pub use pair::Pair;
+pub use pair::JournalPair;

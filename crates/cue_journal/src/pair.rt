@@ -1,5 +1,5 @@
 ghost use Rattle.std.specs.Prelude.{◌≡◌, ◌++◌, ℕ, List, [], true, false, IfOk, OnOk, OnErr};
-ghost use Rattle.cue_journal.specs.Blocks.{recovered};
+ghost use Rattle.cue_journal.specs.Blocks.{recovered_pieces};
 ghost use Rattle.cue_journal.specs.Frames.{file_entries};
 ghost use Rattle.cue_journal.specs.Settled.{IsBatch};
 ghost use Rattle.cue_journal.specs.Batches.{batch_bytes};
@@ -13,27 +13,27 @@ use std::io::ErrorKind;
 /// Two journals: one that grows, and a spare one that a snapshot of all entries goes to. The spare
 /// one then grows, and the other is the spare one, with no entry.
 #[derive(Drop)]
-pub struct Pair<D: Disk> {
+pub struct JournalPair<D: Disk> {
     growing: Journal<D>,
     spare: Journal<D>,
 }
 
-impl<D: Disk> Pair<D> {
-    ghost use Rattle.cue_journal.specs.Journals.{IsReady, disk_of, end_of};
-    ghost use Rattle.cue_journal.specs.Pairs.{growing_of, spare_of, is_whole, entries_of};
+impl<D: Disk> JournalPair<D> {
+    ghost use Rattle.cue_journal.specs.Journals.{IsJournalReady, disk_of, end_of};
+    ghost use Rattle.cue_journal.specs.Pairs.{growing_of, spare_of, is_whole, entries_of_pair};
     ghost use Rattle.cue_journal.specs.Pairs.{IsPairReady, MayLeave, IsCommitted, IsCondensed, LeaveSound};
     ghost use Rattle.cue_journal.specs.Journals.{IsEnough};
 
     /// Two journals that were recovered.
-    pub fn new(growing: Journal<D>, spare: Journal<D>) -> Pair<D>
+    pub fn new(growing: Journal<D>, spare: Journal<D>) -> JournalPair<D>
         ensures growing { growing_of result ≡ growing }
         ensures spare { spare_of result ≡ spare }
     {
-        Pair { growing, spare }
+        JournalPair { growing, spare }
     }
 
     /// How many bytes the journal that grows has.
-    pub fn grown(&self) -> usize
+    pub fn journal_length(&self) -> usize
         ensures { result ≡ end_of (growing_of self.now) }
     {
         self.growing.len()
@@ -49,15 +49,15 @@ impl<D: Disk> Pair<D> {
         ensures acknowledged { OnOk result (IsPairReady D.Disk.seen D.Disk.may_leave self.old
             → IsBatch (batch_bytes batch.old)
             → IsPairReady D.Disk.seen D.Disk.may_leave self.new
-            × (entries_of D.Disk.seen self.new
-            ≡ entries_of D.Disk.seen self.old ++ recovered (batch_bytes batch.old))) }
+            × (entries_of_pair D.Disk.seen self.new
+            ≡ entries_of_pair D.Disk.seen self.old ++ recovered_pieces (batch_bytes batch.old))) }
 
         // A crash at this moment leaves the entries from before, with those of the batch or
         // without.
         ensures crash { IsPairReady D.Disk.seen D.Disk.may_leave self.old
             → IsBatch (batch_bytes batch.old)
             → (left : List (List ℕ)) → MayLeave D.Disk.may_leave self.new left
-            → IsCommitted (entries_of D.Disk.seen self.old) (recovered (batch_bytes batch.old))
+            → IsCommitted (entries_of_pair D.Disk.seen self.old) (recovered_pieces (batch_bytes batch.old))
             left }
         ensures sound { IsPairReady D.Disk.seen D.Disk.may_leave self.old → LeaveSound D.Disk.may_leave self.new }
         ensures whole { OnOk result ((is_whole self.old ≡ true) × (is_whole self.new ≡ true)) }
@@ -83,9 +83,9 @@ impl<D: Disk> Pair<D> {
             → IsPairReady D.Disk.seen D.Disk.may_leave self.old
             → IsBatch (batch_bytes batch.old)
             → IsPairReady D.Disk.seen D.Disk.may_leave self.new
-            × (entries_of D.Disk.seen self.new
+            × (entries_of_pair D.Disk.seen self.new
             ≡ file_entries (D.Disk.seen (disk_of (spare_of self.old)))
-            ++ recovered (batch_bytes batch.old))) }
+            ++ recovered_pieces (batch_bytes batch.old))) }
 
         // The two change places: the spare one has no entry then.
         ensures changed { IfOk result (λ room. IsEnough room
@@ -94,7 +94,7 @@ impl<D: Disk> Pair<D> {
         ensures kept { IfOk result (λ room. ¬ IsEnough room
             → IsPairReady D.Disk.seen D.Disk.may_leave self.old
             → IsPairReady D.Disk.seen D.Disk.may_leave self.new
-            × (entries_of D.Disk.seen self.new ≡ entries_of D.Disk.seen self.old)) }
+            × (entries_of_pair D.Disk.seen self.new ≡ entries_of_pair D.Disk.seen self.old)) }
 
         // A crash at this moment leaves the entries from before, or the batch in the place of those
         // of the journal that grew, or both.
@@ -103,7 +103,7 @@ impl<D: Disk> Pair<D> {
             → (left : List (List ℕ)) → MayLeave D.Disk.may_leave self.new left
             → IsCondensed (file_entries (D.Disk.seen (disk_of (spare_of self.old))))
             (file_entries (D.Disk.seen (disk_of (growing_of self.old))))
-            (recovered (batch_bytes batch.old)) left }
+            (recovered_pieces (batch_bytes batch.old)) left }
         ensures sound { IsPairReady D.Disk.seen D.Disk.may_leave self.old → LeaveSound D.Disk.may_leave self.new }
         ensures whole { OnOk result ((is_whole self.old ≡ true) × (is_whole self.new ≡ true)) }
         ensures broken { OnErr result (is_whole self.new ≡ false) }

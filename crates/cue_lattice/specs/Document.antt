@@ -30,14 +30,14 @@ length_of no_items = 0
 length_of (item document items) = length_of items + 1
 
 -- a member has this label
-abbrev pub Has : List ℕ → Members → Type 0
-Has label no_members = ⊥
-Has label (member next document members) = (next ≡ label) ⊎ Has label members
+abbrev pub HasMember : List ℕ → Members → Type 0
+HasMember label no_members = ⊥
+HasMember label (member next document members) = (next ≡ label) ⊎ HasMember label members
 
 -- the label is less than the first of the members, by bytes
-abbrev pub IsBefore : List ℕ → Members → Type 0
-IsBefore label no_members = Unit {0}
-IsBefore label (member next _ _) = slice_cmp nat_cmp label next ≡ Less
+abbrev pub IsPathBefore : List ℕ → Members → Type 0
+IsPathBefore label no_members = Unit {0}
+IsPathBefore label (member next _ _) = slice_cmp nat_cmp label next ≡ Less
 
 -- a text is in UTF-8
 abbrev pub IsReadable : Scalar → Type 0
@@ -59,4 +59,4 @@ abbrev mutual
   pub AreMembers : Members → Type 0
   AreMembers no_members = Unit {0}
   AreMembers (member label document members) =
-      IsUtf8 label × IsBefore label members × IsDocument document × AreMembers members
+      IsUtf8 label × IsPathBefore label members × IsDocument document × AreMembers members

@@ -7,7 +7,7 @@ use Rattle.cue_lattice.specs.Question as questions
 use Rattle.cue_lattice.specs.Question.{Refusals, may_be, struct, allows, level_at_most}
 use Rattle.cue_lattice.specs.Question.{length_at_most, length_at_least}
 use Rattle.cue_lattice.specs.Document.{Document, scalar, list, map, Items, no_items, item, Members}
-use Rattle.cue_lattice.specs.Document.{no_members, member, length_of, Has}
+use Rattle.cue_lattice.specs.Document.{no_members, member, length_of, HasMember}
 
 -- what is refused below a label, and below an index
 abbrev pub at_label : Refusals → List ℕ → Refusals
@@ -28,7 +28,7 @@ abbrev mutual
       × ItemsMeet (at_index refused) items
   Meets refused (map members) =
       (¬ refused [] struct)
-      × ((l : List ℕ) → refused (label l ∷ []) (level_at_most 0) → Has l members)
+      × ((l : List ℕ) → refused (label l ∷ []) (level_at_most 0) → HasMember l members)
       × MembersMeet refused members
 
   -- what stands at each index meets what is refused there

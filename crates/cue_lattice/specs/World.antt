@@ -35,7 +35,7 @@ pub record Meaning (T : Type 0) : Type 1 where
   pub written : T → List ℕ  -- the bytes that a site writes for a valid table
 
 -- What every meaning must keep to.
-pub record IsSound (T : Type 0) (m : Meaning T) : Type 0 where
+pub record IsSoundLanguage (T : Type 0) (m : Meaning T) : Type 0 where
   -- a legal text has no fault, so that nothing but want of memory refuses it
   pub no_text_fault : (t : List ℕ) (why : Refusal) → m.IsLegal t → m.IsTextFault t why → ⊥
   -- the bytes of a state have none either
@@ -85,12 +85,12 @@ pub record IsAdmitted {T : Type 0} (m : Meaning T) (pieces : List Piece) (d : Do
   pub by_each : AllByRecursion (λ piece. piece_admits m piece d) pieces
 
 -- the piece is in the set
-abbrev pub Has : List Piece → Piece → Type 0
-Has pieces piece = OneOf (λ member. member ≡ piece) pieces
+abbrev pub IsInSet : List Piece → Piece → Type 0
+IsInSet pieces piece = OneOf (λ member. member ≡ piece) pieces
 
 -- one set of pieces, in whatever order and however often they came
 abbrev pub SamePieces : List Piece → List Piece → Type 0
-SamePieces a b = (piece : Piece) → Has a piece ↔ Has b piece
+SamePieces a b = (piece : Piece) → IsInSet a piece ↔ IsInSet b piece
 
 -- one whole call on one site
 pub data Event : Type 0 where
@@ -112,8 +112,8 @@ pub record Sets : Type 0 where
   pub messages : List (List Piece)
 
 -- at the start each site has accepted nothing, and there is no message
-abbrev pub start : ℕ → Sets
-start sites = record { sites = replicate sites []; messages = [] }
+abbrev pub start_sets : ℕ → Sets
+start_sets sites = record { sites = replicate sites []; messages = [] }
 
 -- the set of a site, and of a message
 abbrev pub pieces_at : List (List Piece) → ℕ → List Piece
@@ -128,19 +128,19 @@ add sets site pieces =
     }
 
 -- the sets after an event with this outcome
-abbrev pub after : Sets → Event → Outcome → Sets
-after sets (submit site t) accepted = add sets site (text t ∷ [])
-after sets (send site) (sent number) =
+abbrev pub sets_after : Sets → Event → Outcome → Sets
+sets_after sets (submit site t) accepted = add sets site (text t ∷ [])
+sets_after sets (send site) (sent number) =
     record { sites = sets.sites; messages = sets.messages ++ pieces_at sets.sites site ∷ [] }
-after sets (deliver site message) accepted = add sets site (pieces_at sets.messages message)
-after sets (foreign site bytes) accepted = add sets site (state bytes ∷ [])
-after sets event outcome = sets
+sets_after sets (deliver site message) accepted = add sets site (pieces_at sets.messages message)
+sets_after sets (foreign site bytes) accepted = add sets site (state bytes ∷ [])
+sets_after sets event outcome = sets
 
 -- the sets after a whole list of events
-abbrev pub reach : Sets → List Event → List Outcome → Sets
-reach sets [] outcomes = sets
-reach sets (event ∷ events) [] = sets
-reach sets (event ∷ events) (outcome ∷ outcomes) = reach (after sets event outcome) events outcomes
+abbrev pub reach_sets : Sets → List Event → List Outcome → Sets
+reach_sets sets [] outcomes = sets
+reach_sets sets (event ∷ events) [] = sets
+reach_sets sets (event ∷ events) (outcome ∷ outcomes) = reach_sets (sets_after sets event outcome) events outcomes
 
 -- the site and the message that an event names are there
 abbrev pub IsThere : Sets → Event → Type 0
@@ -151,14 +151,14 @@ IsThere sets (foreign site bytes) = site < length sets.sites
 
 -- What an event may come to where they are there and memory suffices. A site's own message is never
 -- refused.
-abbrev pub IsAnswer : {T : Type 0} → Meaning T → Sets → Event → Outcome → Type 0
-IsAnswer m sets (submit site t) accepted = m.IsLegal t
-IsAnswer m sets (submit site t) (refused why) = m.IsTextFault t why
-IsAnswer m sets (send site) (sent number) = number ≡ length sets.messages
-IsAnswer m sets (deliver site message) accepted = Unit {0}
-IsAnswer m sets (foreign site bytes) accepted = m.IsState bytes
-IsAnswer m sets (foreign site bytes) (refused why) = m.IsStateFault bytes why
-IsAnswer m sets event outcome = ⊥
+abbrev pub IsAnswerOutcome : {T : Type 0} → Meaning T → Sets → Event → Outcome → Type 0
+IsAnswerOutcome m sets (submit site t) accepted = m.IsLegal t
+IsAnswerOutcome m sets (submit site t) (refused why) = m.IsTextFault t why
+IsAnswerOutcome m sets (send site) (sent number) = number ≡ length sets.messages
+IsAnswerOutcome m sets (deliver site message) accepted = Unit {0}
+IsAnswerOutcome m sets (foreign site bytes) accepted = m.IsState bytes
+IsAnswerOutcome m sets (foreign site bytes) (refused why) = m.IsStateFault bytes why
+IsAnswerOutcome m sets event outcome = ⊥
 
 -- what the event hands in from outside is refused before any memory is wanted
 abbrev pub IsRefusedAtOnce : {T : Type 0} → Meaning T → Event → Type 0
@@ -171,16 +171,16 @@ abbrev pub IsStarved : {T : Type 0} → Meaning T → Event → Outcome → Type
 IsStarved m event outcome = (outcome ≡ refused memory) × ¬ IsRefusedAtOnce m event
 
 -- what an event may come to
-abbrev pub IsOutcome : {T : Type 0} → Meaning T → Sets → Event → Outcome → Type 0
-IsOutcome m sets event outcome =
-    (IsThere sets event × (IsAnswer m sets event outcome ⊎ IsStarved m event outcome))
+abbrev pub IsEventOutcome : {T : Type 0} → Meaning T → Sets → Event → Outcome → Type 0
+IsEventOutcome m sets event outcome =
+    (IsThere sets event × (IsAnswerOutcome m sets event outcome ⊎ IsStarved m event outcome))
     ⊎ ((IsThere sets event → ⊥) × (outcome ≡ no_such))
 
 -- each event has one outcome, and one that it may have at its moment
 abbrev pub AreOutcomes : {T : Type 0} → Meaning T → Sets → List Event → List Outcome → Type 0
 AreOutcomes m sets [] [] = Unit {0}
 AreOutcomes m sets (event ∷ events) (outcome ∷ outcomes) =
-    IsOutcome m sets event outcome × AreOutcomes m (after sets event outcome) events outcomes
+    IsEventOutcome m sets event outcome × AreOutcomes m (sets_after sets event outcome) events outcomes
 AreOutcomes m sets events outcomes = ⊥
 
 -- R holds of each two elements at one place, and there are as many of the one as of the other

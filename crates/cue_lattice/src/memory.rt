@@ -13,7 +13,7 @@ pub struct Memory {
 
 impl Memory {
     /// That so many things and so many more are too many for any memory.
-    pub fn beyond(_things: u64, _more: u64) -> Memory
+    pub fn too_many(_things: u64, _more: u64) -> Memory
         requires { 2 ^ 64 ≤ _things + _more }
     {
         Memory { _refused: () }

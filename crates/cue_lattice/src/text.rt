@@ -17,7 +17,7 @@ const ROOM: usize = 22;
 
 /// How the bytes of a text are kept.
 #[derive(Drop)]
-pub(crate) enum Kept {
+pub(crate) enum TextStorage {
     /// So many bytes at the front of the room.
     Short(u8, [u8; ROOM]),
     /// A string that copies share.
@@ -29,18 +29,18 @@ pub(crate) enum Kept {
 /// between copies.
 #[derive(Drop)]
 pub struct Text {
-    kept: Kept,
+    kept: TextStorage,
 }
 
 impl Model for Text {
     ghost use Rattle.std.specs.Prelude.{List, ℕ};
-    ghost use Rattle.cue_lattice.specs.Kept.{kept_bytes, IsSound};
+    ghost use Rattle.cue_lattice.specs.Kept.{kept_bytes, IsSoundText};
 
     ghost Value = { List ℕ };
 
     ghost view = { λ text. kept_bytes text.kept };
 
-    ghost invariant = { λ text. IsSound text.kept };
+    ghost invariant = { λ text. IsSoundText text.kept };
 }
 
 impl Text {
@@ -53,7 +53,7 @@ impl Text {
             return Text::from_str(alloc, string.as_str());
         }
         Ok(Text {
-            kept: Kept::Long(Rc::new(alloc, string)?),
+            kept: TextStorage::Long(Rc::new(alloc, string)?),
         })
     }
 
@@ -67,13 +67,13 @@ impl Text {
         if len > ROOM {
             let string = String::from_str(alloc, text)?;
             return Ok(Text {
-                kept: Kept::Long(Rc::new(alloc, string)?),
+                kept: TextStorage::Long(Rc::new(alloc, string)?),
             });
         }
         let mut room = [0u8; ROOM];
         room[..len].copy_from_slice(bytes);
         Ok(Text {
-            kept: Kept::Short(len as u8, room),
+            kept: TextStorage::Short(len as u8, room),
         })
     }
 
@@ -82,8 +82,10 @@ impl Text {
         ensures { result.now ≡ self.now }
     {
         match &self.kept {
-            Kept::Short(len, room) => unsafe { str::from_utf8_unchecked(&room[..*len as usize]) },
-            Kept::Long(string) => string.as_str(),
+            TextStorage::Short(len, room) => unsafe {
+                str::from_utf8_unchecked(&room[..*len as usize])
+            },
+            TextStorage::Long(string) => string.as_str(),
         }
     }
 
@@ -92,8 +94,8 @@ impl Text {
         ensures { result.now ≡ self.now }
     {
         match &self.kept {
-            Kept::Short(len, room) => &room[..*len as usize],
-            Kept::Long(string) => string.as_bytes(),
+            TextStorage::Short(len, room) => &room[..*len as usize],
+            TextStorage::Long(string) => string.as_bytes(),
         }
     }
 
@@ -102,7 +104,7 @@ impl Text {
         ensures { IfOk result (λ string. string_bytes string ≡ self) }
     {
         match self.kept {
-            Kept::Long(shared) => match Rc::try_unwrap(shared) {
+            TextStorage::Long(shared) => match Rc::try_unwrap(shared) {
                 Ok(string) => Ok(string),
                 Err(shared) => Ok(String::from_str(alloc, shared.as_str())?),
             },
@@ -118,12 +120,12 @@ impl Text {
         ensures room { length self.now ≤ 22 → IsOk result }
     {
         match &self.kept {
-            Kept::Short(len, room) => Ok(Text {
-                kept: Kept::Short(*len, *room),
+            TextStorage::Short(len, room) => Ok(Text {
+                kept: TextStorage::Short(*len, *room),
             }),
-            Kept::Long(string) => match Rc::clone(string) {
+            TextStorage::Long(string) => match Rc::clone(string) {
                 Ok(shared) => Ok(Text {
-                    kept: Kept::Long(shared),
+                    kept: TextStorage::Long(shared),
                 }),
                 Err(_uncounted) => Text::from_str(alloc, string.as_str()),
             },
@@ -136,7 +138,7 @@ impl Text {
         ensures { result ≡ slice_cmp nat_cmp self.now other.now }
     {
         match (&self.kept, &other.kept) {
-            (Kept::Short(len, room), Kept::Short(more, others)) => {
+            (TextStorage::Short(len, room), TextStorage::Short(more, others)) => {
                 compare_short(*len, room, *more, others)
             }
             _ => self.as_str().cmp(other.as_str()),

@@ -7,15 +7,15 @@ use Rattle.cue_policies.specs.declared.kind.LayerKind.{LayerKind}
 use Rattle.cue_policies.specs.declared.kind.LayerKind.TheVariants as kinds
 use Rattle.cue_replica.specs.Language.{language}
 use Rattle.cue_layers.specs.declared.layer.Layer.{Layer}
-use Rattle.cue_layers.specs.Join.{IsPut, CommonsGrows, AddsPuts}
+use Rattle.cue_layers.specs.Join.{IsOnePut, CommonsGrows, AddsPuts}
 use Rattle.cue_layers.specs.Layers.{key, key_of, IsMap, IsCommons}
-use Rattle.cue_layers.specs.Maps.{IsMapOf, commons_put}
-use Rattle.cue_layers.specs.Puts.{Put, Has, of_layers, of_puts}
+use Rattle.cue_layers.specs.Maps.{IsMapOfPuts, commons_put}
+use Rattle.cue_layers.specs.Puts.{Put, HasElement, of_layers, of_puts}
 use Rattle.cue_layers.specs.Inner.Covers.{IsCovered, Covers, SpeakAlike}
 use Rattle.cue_layers.proofs.Covers.{alike_on, alike_both, current_alike, alike_current, covered_on, covered_by_more, covers_itself}
 use Rattle.cue_layers.proofs.Lists.{has-append, has_left, has_right}
 
-module _ (old new : List Layer) (ps : List Put) (kind : LayerKind) (name : List ℕ) (pieces : List Piece) (revision : ℕ) (of : IsMapOf ps old) (is : IsPut old kind name pieces new revision) where
+module _ (old new : List Layer) (ps : List Put) (kind : LayerKind) (name : List ℕ) (pieces : List Piece) (revision : ℕ) (of : IsMapOfPuts ps old) (is : IsOnePut old kind name pieces new revision) where
   layer_covered : Covers of_layers of_puts (record { kind = kind; name = name; revision = revision; content = is.content } ∷ []) (record { kind = kind; name = name; revision = revision; pieces = pieces } ∷ [])
   layer_covered y h = ⊎_elim (λ e. subst (λ (l : Layer). IsCovered of_layers of_puts l (record { kind = kind; name = name; revision = revision; pieces = pieces } ∷ [])) e (record {
     above = (record { kind = kind; name = name; revision = revision; pieces = pieces }, inl refl, refl, omega arith);
@@ -28,7 +28,7 @@ module _ (old new : List Layer) (ps : List Put) (kind : LayerKind) (name : List 
     refused = λ path question r. (record { kind = kind; name = name; revision = revision; content = is.content }, inl refl, refl, inr (refl, (is.refuses path question).1 r));
   })) (λ no. absurd no) h
 
-  put_added : IsMapOf (ps ++ record { kind = kind; name = name; revision = revision; pieces = pieces } ∷ []) new
+  put_added : IsMapOfPuts (ps ++ record { kind = kind; name = name; revision = revision; pieces = pieces } ∷ []) new
   put_added =
       let c = commons_put [] in
       let l : List Layer = record { kind = kind; name = name; revision = revision; content = is.content } ∷ [] in
@@ -63,14 +63,14 @@ module _ (l m : Layer) (ls : List Layer) (xs : List Put) (piece : Piece) (common
     refused = λ path question r. (m, inl refl, same_key, inr (sym same_revision, keeps path question (inl r)));
   })
 
-  put_in : Has (xs ++ commons_put (piece ∷ []) ∷ []) (commons_put (piece ∷ []))
+  put_in : HasElement (xs ++ commons_put (piece ∷ []) ∷ []) (commons_put (piece ∷ []))
   put_in = has_right xs (commons_put (piece ∷ []) ∷ []) (commons_put (piece ∷ [])) (inl refl)
 
   new_covered : Covers of_layers of_puts (m ∷ ls) (xs ++ commons_put (piece ∷ []) ∷ [])
   new_covered y (inr h) = covered_by_more of_layers of_puts y xs (xs ++ commons_put (piece ∷ []) ∷ []) (has_left xs (commons_put (piece ∷ []) ∷ [])) (alike.0 y (inr h))
   new_covered y (inl e) =
       let c = alike.0 l (inl refl) in
-      let more : (p : Put) → Has xs p → Has (xs ++ commons_put (piece ∷ []) ∷ []) p = has_left xs (commons_put (piece ∷ []) ∷ []) in
+      let more : (p : Put) → HasElement xs p → HasElement (xs ++ commons_put (piece ∷ []) ∷ []) p = has_left xs (commons_put (piece ∷ []) ∷ []) in
       subst (λ (z : Layer). IsCovered of_layers of_puts z (xs ++ commons_put (piece ∷ []) ∷ [])) e (record {
         above = (c.above.0, more c.above.0 c.above.1, c.above.2 ∙ sym same_key, let le : l.revision ≤ c.above.0.revision = c.above.3 in omega (arith, same_revision));
         refused = λ path question r. ⊎_elim
@@ -89,7 +89,7 @@ module _ (l m : Layer) (ls : List Layer) (xs : List Put) (piece : Piece) (common
       })) (λ no. absurd no) g)
       (has-append xs (commons_put (piece ∷ []) ∷ []) p h)
 
-commons_added : (old new : List Layer) (ps : List Put) (piece : Piece) → IsMapOf ps old → IsMap new → CommonsGrows old (pieces_refuse language (piece ∷ [])) new → IsMapOf (ps ++ commons_put (piece ∷ []) ∷ []) new
+commons_added : (old new : List Layer) (ps : List Put) (piece : Piece) → IsMapOfPuts ps old → IsMap new → CommonsGrows old (pieces_refuse language (piece ∷ [])) new → IsMapOfPuts (ps ++ commons_put (piece ∷ []) ∷ []) new
 commons_added [] new ps piece of map grows = absurd grows
 commons_added (l ∷ ls) [] ps piece of map grows = absurd grows
 commons_added (l ∷ ls) (m ∷ ms) ps piece of map grows =

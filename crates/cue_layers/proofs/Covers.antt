@@ -6,26 +6,26 @@ use Rattle.cue_lattice.specs.Question.{Question}
 use Rattle.cue_replica.specs.Language.{language}
 use Rattle.cue_layers.specs.declared.layer.Layer.{Layer}
 use Rattle.cue_layers.specs.Layers.{key_of, IsInOrder}
-use Rattle.cue_layers.specs.Puts.{Claims, Has, SameMembers, IsAt, IsCurrent, AreCurrent, of_layers}
+use Rattle.cue_layers.specs.Puts.{Claims, HasElement, SameMembers, IsOfKey, IsCurrent, AreCurrent, of_layers}
 use Rattle.cue_layers.specs.Inner.Covers.{IsCovered, Covers, SpeakAlike}
 use Rattle.cue_layers.proofs.Keys.{once}
 use Rattle.cue_layers.proofs.Lists.{one_found, one_by, has-append, has_left, has_right, all_at, all_by}
 
 -- a member speaks for itself
-pub covers_itself : {X : Type 0} (c : Claims X) (xs : List X) (x : X) → Has xs x → IsCovered c c x xs
+pub covers_itself : {X : Type 0} (c : Claims X) (xs : List X) (x : X) → HasElement xs x → IsCovered c c x xs
 covers_itself c xs x h = record {
   above = (x, h, refl, omega arith);
   refused = λ path question r. (x, h, refl, inr (refl, r));
 }
 
 -- more members speak for more
-pub covered_by_more : {X Y : Type 0} (cx : Claims X) (cy : Claims Y) (x : X) (ys zs : List Y) → ((y : Y) → Has ys y → Has zs y) → IsCovered cx cy x ys → IsCovered cx cy x zs
+pub covered_by_more : {X Y : Type 0} (cx : Claims X) (cy : Claims Y) (x : X) (ys zs : List Y) → ((y : Y) → HasElement ys y → HasElement zs y) → IsCovered cx cy x ys → IsCovered cx cy x zs
 covered_by_more cx cy x ys zs more c = record {
   above = (c.above.0, more c.above.0 c.above.1, c.above.2, c.above.3);
   refused = λ path question r. let g = c.refused path question r in (g.0, more g.0 g.1, g.2, g.3);
 }
 
-pub covers_members : {X : Type 0} (c : Claims X) (xs ys : List X) → ((x : X) → Has xs x → Has ys x) → Covers c c xs ys
+pub covers_members : {X : Type 0} (c : Claims X) (xs ys : List X) → ((x : X) → HasElement xs x → HasElement ys x) → Covers c c xs ys
 covers_members c xs ys to = λ x h. covers_itself c ys x (to x h)
 
 -- what speaks for those that speak for a member speaks for it
@@ -84,19 +84,19 @@ alike_members c xs ys same = (covers_members c xs ys (λ x. (same x).0), covers_
 pub current_alike : {X : Type 0} (c : Claims X) (xs : List X) (layers : List Layer) → AreCurrent c xs layers → SpeakAlike of_layers c layers xs
 current_alike {X} c xs layers current = (to, back)
   where
-    to : (l : Layer) → Has layers l → IsCovered of_layers c l xs
+    to : (l : Layer) → HasElement layers l → IsCovered of_layers c l xs
     to l h =
         let is = all_at (IsCurrent c xs) layers l current.each h in
-        let at = one_found (IsAt c l) xs is.revision in
+        let at = one_found (IsOfKey c l) xs is.revision in
         let le : c.revision at.0 ≡ l.revision = at.2.revision in
         record {
           above = (at.0, at.1, at.2.key, omega arith);
           refused = λ path question r.
-              let g = one_found (λ (x : X). IsAt c l x × c.refuses x path question) xs ((is.refuses path question).0 r) in
+              let g = one_found (λ (x : X). IsOfKey c l x × c.refuses x path question) xs ((is.refuses path question).0 r) in
               (g.0, g.1, g.2.0.key, inr (sym g.2.0.revision, g.2.1));
         }
 
-    back : (x : X) → Has xs x → IsCovered c of_layers x layers
+    back : (x : X) → HasElement xs x → IsCovered c of_layers x layers
     back x h =
         let g = one_found (λ (l : Layer). key_of l ≡ c.key x) layers (current.all x h) in
         let is = all_at (IsCurrent c xs) layers g.0 current.each g.1 in
@@ -108,7 +108,7 @@ current_alike {X} c xs layers current = (to, back)
               (λ lt. (g.0, g.1, g.2, inl lt))
               (λ ge.
               let same : c.revision x ≡ g.0.revision = omega arith in
-              (g.0, g.1, g.2, inr (same, (is.refuses path question).1 (one_by (λ (y : X). IsAt c g.0 y × c.refuses y path question) xs x h (record { key = sym g.2; revision = same }, r)))))
+              (g.0, g.1, g.2, inr (same, (is.refuses path question).1 (one_by (λ (y : X). IsOfKey c g.0 y × c.refuses y path question) xs x h (record { key = sym g.2; revision = same }, r)))))
               (cases_lt (c.revision x) g.0.revision);
         }
 
@@ -120,19 +120,19 @@ alike_current {X} c xs layers order alike = record {
 }
   where
     -- a member of the key of a layer has no greater revision
-    least : (l : Layer) → Has layers l → (x : X) → Has xs x → c.key x ≡ key_of l → c.revision x ≤ l.revision
+    least : (l : Layer) → HasElement layers l → (x : X) → HasElement xs x → c.key x ≡ key_of l → c.revision x ≤ l.revision
     least l h x g same =
         let a = (alike.1 x g).above in
         let one : a.0 ≡ l = once layers a.0 l order a.1 h (a.2 ∙ same) in
         subst (λ (m : Layer). c.revision x ≤ m.revision) one a.3
 
-    refuses : (l : Layer) → Has layers l → (path : Path) (question : Question) → language.table_refuses l.content path question → (x : X) × Has xs x × IsAt c l x × c.refuses x path question
+    refuses : (l : Layer) → HasElement layers l → (path : Path) (question : Question) → language.table_refuses l.content path question → (x : X) × HasElement xs x × IsOfKey c l x × c.refuses x path question
     refuses l h path question r =
         let g = (alike.0 l h).refused path question r in
         let le : c.revision g.0 ≤ l.revision = least l h g.0 g.1 g.2 in
         ⊎_elim (λ lt. let less : l.revision < c.revision g.0 = lt in absurd (omega arith)) (λ same. (g.0, g.1, record { key = g.2; revision = sym same.0 }, same.1)) g.3
 
-    refused : (l : Layer) → Has layers l → (path : Path) (question : Question) → (x : X) → Has xs x → IsAt c l x → c.refuses x path question → language.table_refuses l.content path question
+    refused : (l : Layer) → HasElement layers l → (path : Path) (question : Question) → (x : X) → HasElement xs x → IsOfKey c l x → c.refuses x path question → language.table_refuses l.content path question
     refused l h path question x g at r =
         let b = (alike.1 x g).refused path question r in
         let one : b.0 ≡ l = once layers b.0 l order b.1 h (b.2 ∙ at.key) in
@@ -141,16 +141,16 @@ alike_current {X} c xs layers order alike = record {
         (λ same. subst (λ (m : Layer). language.table_refuses m.content path question) one same.1)
         b.3
 
-    is : (l : Layer) → Has layers l → IsCurrent c xs l
+    is : (l : Layer) → HasElement layers l → IsCurrent c xs l
     is l h =
         let a = (alike.0 l h).above in
         let le : c.revision a.0 ≤ l.revision = least l h a.0 a.1 a.2 in
         let ge : l.revision ≤ c.revision a.0 = a.3 in
         record {
-          revision = one_by (IsAt c l) xs a.0 a.1 (record { key = a.2; revision = omega arith });
+          revision = one_by (IsOfKey c l) xs a.0 a.1 (record { key = a.2; revision = omega arith });
           greatest = least l h;
           refuses = λ path question. (
-            λ r. let g = refuses l h path question r in one_by (λ (x : X). IsAt c l x × c.refuses x path question) xs g.0 g.1 (g.2, g.3),
-            λ o. let g = one_found (λ (x : X). IsAt c l x × c.refuses x path question) xs o in refused l h path question g.0 g.1 g.2.0 g.2.1,
+            λ r. let g = refuses l h path question r in one_by (λ (x : X). IsOfKey c l x × c.refuses x path question) xs g.0 g.1 (g.2, g.3),
+            λ o. let g = one_found (λ (x : X). IsOfKey c l x × c.refuses x path question) xs o in refused l h path question g.0 g.1 g.2.0 g.2.1,
           );
         }

@@ -3,7 +3,7 @@ use Rattle.std.proofs.Common.{◌≡◌, inl, List, [], ◌∷◌, get_or, set, 
 use Rattle.cue_lattice.specs.Question.{Refusals}
 use Rattle.cue_policies.specs.declared.kind.LayerKind.TheVariants as kinds
 use Rattle.cue_replica.specs.Language.{Table, language}
-use Rattle.cue_replica.specs.Replica.{Adds}
+use Rattle.cue_replica.specs.Replica.{AddsRefusals}
 use Rattle.cue_layers.specs.declared.layer.Layer.{Layer}
 use Rattle.cue_layers.specs.Join.{CommonsGrows}
 use Rattle.cue_layers.specs.Layers.{IsMap}
@@ -12,10 +12,10 @@ use Rattle.cue_layers.specs.Layers.{IsMap}
 abbrev pub with_content : Layer → Table → Layer
 with_content l content = record l { content = content }
 
-pub grows : (old : List Layer) (l : Layer) (content : Table) (added : Refusals) → IsMap old → l ≡ get_or old 0 l → Adds l.content added content → CommonsGrows old added (set old 0 (with_content l content))
+pub grows : (old : List Layer) (l : Layer) (content : Table) (added : Refusals) → IsMap old → l ≡ get_or old 0 l → AddsRefusals l.content added content → CommonsGrows old added (set old 0 (with_content l content))
 grows [] l content added map is adds = absurd map.commons
 grows (x ∷ ls) l content added map is adds =
-    let P : Layer → Type 0 = λ z. Adds z.content added content in
+    let P : Layer → Type 0 = λ z. AddsRefusals z.content added content in
     (ap (λ (z : Layer). with_content z content) is, subst P is adds, refl)
 
 pub grown_map : (old : List Layer) (l : Layer) (content : Table) → IsMap old → l ≡ get_or old 0 l → language.IsValid content → IsMap (set old 0 (with_content l content))

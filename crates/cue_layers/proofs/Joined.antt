@@ -5,9 +5,9 @@ use Rattle.cue_lattice.specs.World.{AllAlong}
 use Rattle.cue_policies.specs.declared.kind.LayerKind.{LayerKind}
 use Rattle.cue_policies.specs.declared.kind.LayerKind.TheVariants as kinds
 use Rattle.cue_layers.specs.declared.layer.Layer.{Layer}
-use Rattle.cue_layers.specs.Layers.{Key, key, key_of, IsBefore, IsInOrder, IsMap, IsLayer, IsCommons, BeginsWithCommons}
+use Rattle.cue_layers.specs.Layers.{Key, key, key_of, IsKeyBefore, IsInOrder, IsMap, IsLayer, IsCommons, BeginsWithCommons}
 use Rattle.cue_layers.specs.Maps.{IsJoin}
-use Rattle.cue_layers.specs.Puts.{Has, of_layers}
+use Rattle.cue_layers.specs.Puts.{HasElement, of_layers}
 use Rattle.cue_layers.specs.Inner.Covers.{IsCovered, Covers}
 use Rattle.cue_layers.specs.Inner.Merging.{IsTieOf, IsTied, HaveTies, IsMerged}
 use Rattle.cue_layers.proofs.Covers.{covers_itself, covered_by_more, covers_on, covers_members, alike_current}
@@ -16,10 +16,10 @@ use Rattle.cue_layers.proofs.Lists.{has-append, has_left, has_right, all_at, all
 use Rattle.cue_layers.proofs.Replacing.{no_empty_name}
 
 -- nothing comes before the commons
-none_before : (a : Key) (kind : LayerKind) (name : List ℕ) → a ≡ key kinds.Layer [] → IsBefore (key kind name) a → ⊥
-none_before a kind name e h = by kind name (subst (IsBefore (key kind name)) e h)
+none_before : (a : Key) (kind : LayerKind) (name : List ℕ) → a ≡ key kinds.Layer [] → IsKeyBefore (key kind name) a → ⊥
+none_before a kind name e h = by kind name (subst (IsKeyBefore (key kind name)) e h)
   where
-    by : (kind : LayerKind) (name : List ℕ) → IsBefore (key kind name) (key kinds.Layer []) → ⊥
+    by : (kind : LayerKind) (name : List ℕ) → IsKeyBefore (key kind name) (key kinds.Layer []) → ⊥
     by kinds.Layer [] g = not_before_itself (key kinds.Layer []) g
     by kinds.Layer (b ∷ bytes) g = cc
     by kinds.Policy bytes g = cc
@@ -28,26 +28,26 @@ none_before a kind name e h = by kind name (subst (IsBefore (key kind name)) e h
 commons_by : (l : Layer) → IsLayer l → key_of l ≡ key kinds.Layer [] → IsCommons l
 commons_by l is e = ⊎_elim (λ c. c) (λ n. absurd (no_empty_name l.name n.name (same_name l.kind kinds.Layer l.name [] e))) is.is
 
-begins_by : (ls : List Layer) (l : Layer) → IsInOrder ls → AllByRecursion IsLayer ls → Has ls l → key_of l ≡ key kinds.Layer [] → BeginsWithCommons ls
+begins_by : (ls : List Layer) (l : Layer) → IsInOrder ls → AllByRecursion IsLayer ls → HasElement ls l → key_of l ≡ key kinds.Layer [] → BeginsWithCommons ls
 begins_by [] l o each h e = absurd h
 begins_by (x ∷ ls) l o each (inl g) e = commons_by x each.0 (ap key_of g ∙ e)
 begins_by (x ∷ ls) l o each (inr g) e =
-    absurd (none_before (key_of l) x.kind x.name e (all_at (λ (y : Layer). IsBefore (key_of x) (key_of y)) ls l o.0 g))
+    absurd (none_before (key_of l) x.kind x.name e (all_at (λ (y : Layer). IsKeyBefore (key_of x) (key_of y)) ls l o.0 g))
 
 -- ---- lists that were tied
 
-same_keys : (own others tied : List Layer) → AllAlong (IsTied own) others tied → (a : Key) → AllByRecursion (λ y. IsBefore a (key_of y)) others → AllByRecursion (λ y. IsBefore a (key_of y)) tied
+same_keys : (own others tied : List Layer) → AllAlong (IsTied own) others tied → (a : Key) → AllByRecursion (λ y. IsKeyBefore a (key_of y)) others → AllByRecursion (λ y. IsKeyBefore a (key_of y)) tied
 same_keys own [] [] along a all = tt
 same_keys own [] (y ∷ ys) along a all = absurd along
 same_keys own (x ∷ xs) [] along a all = absurd along
-same_keys own (x ∷ xs) (y ∷ ys) along a all = (subst (IsBefore a) (sym (ap key_of along.0.same)) all.0, same_keys own xs ys along.1 a all.1)
+same_keys own (x ∷ xs) (y ∷ ys) along a all = (subst (IsKeyBefore a) (sym (ap key_of along.0.same)) all.0, same_keys own xs ys along.1 a all.1)
 
 pub tied_order : (own others tied : List Layer) → AllAlong (IsTied own) others tied → IsInOrder others → IsInOrder tied
 tied_order own [] [] along o = tt
 tied_order own [] (y ∷ ys) along o = absurd along
 tied_order own (x ∷ xs) [] along o = absurd along
 tied_order own (x ∷ xs) (y ∷ ys) along o =
-    let P : Key → Type 0 = λ k. AllByRecursion (λ (z : Layer). IsBefore k (key_of z)) ys in
+    let P : Key → Type 0 = λ k. AllByRecursion (λ (z : Layer). IsKeyBefore k (key_of z)) ys in
     (subst P (sym (ap key_of along.0.same)) (same_keys own xs ys along.1 (key_of x) o.0), tied_order own xs ys along.1 o.1)
 
 pub tied_ties : (own others tied : List Layer) → AllAlong (IsTied own) others tied → HaveTies own tied
@@ -91,7 +91,7 @@ module _ (own others tied merged : List Layer) (mo : IsMap own) (mt : IsMap othe
       let all = all_both IsLayer own tied mo.each (tied_layers own others tied along mo.each mt.each) in
       all_by IsLayer merged (λ x h. all_at IsLayer (own ++ tied) x all (is.some x h))
 
-  first_own : (ls : List Layer) → BeginsWithCommons ls → (l : Layer) × Has ls l × (key_of l ≡ key kinds.Layer [])
+  first_own : (ls : List Layer) → BeginsWithCommons ls → (l : Layer) × HasElement ls l × (key_of l ≡ key kinds.Layer [])
   first_own [] c = absurd c
   first_own (l ∷ ls) c = (l, inl refl, λ i. key (c.kind i) (c.name i))
 

@@ -8,7 +8,7 @@ use Rattle.cue_layers.specs.declared.layer.Layer.{Layer}
 use Rattle.cue_layers.specs.Layers.{key_of, IsMap, IsLayer}
 use Rattle.cue_layers.specs.Maps.{commons_put}
 use Rattle.cue_layers.specs.Join.{AreEqualOfOneSet, JoinsPuts, IsCommutative, IsAssociative, IsIdempotent}
-use Rattle.cue_layers.specs.Puts.{Claims, Has, SameMembers, of_layers, of_puts, AreCurrent}
+use Rattle.cue_layers.specs.Puts.{Claims, HasElement, SameMembers, of_layers, of_puts, AreCurrent}
 use Rattle.cue_layers.specs.Inner.Covers.{SpeakAlike}
 use Rattle.cue_layers.proofs.Covers.{alike_on, alike_back, alike_both, alike_itself, alike_members, current_alike, alike_current}
 use Rattle.cue_layers.proofs.Keys.{once, one_list, same_kind, same_name}
@@ -19,17 +19,17 @@ pub same_layer : (a b : Layer) → a.kind ≡ b.kind → a.name ≡ b.name → a
 same_layer a b k n r c = λ i. record { kind = k i; name = n i; revision = r i; content = c i }
 
 -- a layer of the one is one of the other
-has_also : (a b : List Layer) → IsMap a → IsMap b → SpeakAlike of_layers of_layers a b → (x : Layer) → Has a x → Has b x
-has_also a b ma mb alike x h = subst (λ (l : Layer). Has b l) (sym same) there.1
+has_also : (a b : List Layer) → IsMap a → IsMap b → SpeakAlike of_layers of_layers a b → (x : Layer) → HasElement a x → HasElement b x
+has_also a b ma mb alike x h = subst (λ (l : Layer). HasElement b l) (sym same) there.1
   where
-    there : (y : Layer) × Has b y × (key_of y ≡ key_of x) × (x.revision ≤ y.revision)
+    there : (y : Layer) × HasElement b y × (key_of y ≡ key_of x) × (x.revision ≤ y.revision)
     there = (alike.0 x h).above
 
     -- whatever the other has of the key is that layer
-    in_b : (y : Layer) → Has b y → key_of y ≡ key_of x → y ≡ there.0
+    in_b : (y : Layer) → HasElement b y → key_of y ≡ key_of x → y ≡ there.0
     in_b y g e = once b y there.0 mb.in_order g there.1 (e ∙ sym there.2)
 
-    in_a : (z : Layer) → Has a z → key_of z ≡ key_of there.0 → z ≡ x
+    in_a : (z : Layer) → HasElement a z → key_of z ≡ key_of there.0 → z ≡ x
     in_a z g e = once a z x ma.in_order g h (e ∙ there.2)
 
     revisions : x.revision ≡ there.0.revision

@@ -13,10 +13,10 @@ use Rattle.cue_lattice.specs.Path.{Path}
 use Rattle.cue_lattice.specs.Question.{Question, Refusals}
 use Rattle.cue_policies.specs.WellFormed.{IsWellFormed}
 use Rattle.cue_replica.specs.Language.{Table, language}
-use Rattle.cue_replica.specs.Replica.{Adds}
+use Rattle.cue_replica.specs.Replica.{AddsRefusals}
 use Rattle.cue_layers.specs.declared.layer.Layer.{Layer}
-use Rattle.cue_layers.specs.Layers.{key_of, IsBefore, IsInOrder, IsLayer}
-use Rattle.cue_layers.specs.Puts.{Has, of_layers}
+use Rattle.cue_layers.specs.Layers.{key_of, IsKeyBefore, IsInOrder, IsLayer}
+use Rattle.cue_layers.specs.Puts.{HasElement, of_layers}
 use Rattle.cue_layers.specs.Inner.Covers.{IsCovered, Covers}
 use Rattle.cue_layers.specs.Inner.Merging.{IsTieOf, IsTied, IsTiedWith, HaveTies, HaveLast, IsLastOrder, TakesLast, AreEmpty}
 use Rattle.cue_layers.specs.Inner.Places.{IsGap}
@@ -64,15 +64,15 @@ last_ordered own others x y o is other e = by o e
     by Equal h = (x, y, have, tied_same (key_of x) (key_of y) (sym h))
 
 -- each layer of a list in order comes before what comes behind the last one
-pub all_before : (own front : List Layer) (x z : Layer) → IsInOrder own → own ≡ front ++ x ∷ [] → IsBefore (key_of x) (key_of z) → AllByRecursion (λ y. IsBefore (key_of y) (key_of z)) own
-all_before own front x z order parts before = all_by (λ (y : Layer). IsBefore (key_of y) (key_of z)) own (λ y h. ⊎_elim
+pub all_before : (own front : List Layer) (x z : Layer) → IsInOrder own → own ≡ front ++ x ∷ [] → IsKeyBefore (key_of x) (key_of z) → AllByRecursion (λ y. IsKeyBefore (key_of y) (key_of z)) own
+all_before own front x z order parts before = all_by (λ (y : Layer). IsKeyBefore (key_of y) (key_of z)) own (λ y h. ⊎_elim
     (λ g. before_trans (key_of y) (key_of x) (key_of z) (order_across front (x ∷ []) y x (subst IsInOrder parts order) g (inl refl)) before)
-    (⊎_elim (λ e. subst (λ (l : Layer). IsBefore (key_of l) (key_of z)) e before) (λ no. absurd no))
-    (has-append front (x ∷ []) y (let P : List Layer → Type 0 = λ ls. Has ls y in subst P parts h)))
+    (⊎_elim (λ e. subst (λ (l : Layer). IsKeyBefore (key_of l) (key_of z)) e before) (λ no. absurd no))
+    (has-append front (x ∷ []) y (let P : List Layer → Type 0 = λ ls. HasElement ls y in subst P parts h)))
 
-front_before : (own front : List Layer) (x z : Layer) → IsInOrder own → own ≡ front ++ x ∷ [] → key_of x ≡ key_of z → AllByRecursion (λ y. IsBefore (key_of y) (key_of z)) front
-front_before own front x z order parts same = all_by (λ (y : Layer). IsBefore (key_of y) (key_of z)) front (λ y h.
-    subst (IsBefore (key_of y)) same (order_across front (x ∷ []) y x (subst IsInOrder parts order) h (inl refl)))
+front_before : (own front : List Layer) (x z : Layer) → IsInOrder own → own ≡ front ++ x ∷ [] → key_of x ≡ key_of z → AllByRecursion (λ y. IsKeyBefore (key_of y) (key_of z)) front
+front_before own front x z order parts same = all_by (λ (y : Layer). IsKeyBefore (key_of y) (key_of z)) front (λ y h.
+    subst (IsKeyBefore (key_of y)) same (order_across front (x ∷ []) y x (subst IsInOrder parts order) h (inl refl)))
 
 -- the only layer of a list speaks for itself
 alone : (x : Layer) → Covers of_layers of_layers (x ∷ []) (x ∷ [])
@@ -92,10 +92,10 @@ takes_less own others left (Some z) o p last parts none = record {
   some = inl refl;
   covers = alone z;
   own_before = ⊎_elim
-      (λ is. subst (AllByRecursion (λ (y : Layer). IsBefore (key_of y) (key_of z))) (sym is) tt)
+      (λ is. subst (AllByRecursion (λ (y : Layer). IsKeyBefore (key_of y) (key_of z))) (sym is) tt)
       (λ h.
       let same : h.1 ≡ z = (snoc_same h.2.others_front left h.1 z (sym h.2.others_parts ∙ parts)).1 in
-      all_before own h.2.own_front h.0 z o h.2.own_parts (subst (λ (l : Layer). IsBefore (key_of h.0) (key_of l)) same h.3))
+      all_before own h.2.own_front h.0 z o h.2.own_parts (subst (λ (l : Layer). IsKeyBefore (key_of h.0) (key_of l)) same h.3))
       last;
   others_before = front_before others left z z p parts refl;
   shorter = omega (arith, ap length parts, length-append left (z ∷ []));
@@ -114,10 +114,10 @@ takes_greater own others left (Some z) o p last parts none = record {
   covers = alone z;
   own_before = front_before own left z z o parts refl;
   others_before = ⊎_elim
-      (λ is. subst (AllByRecursion (λ (y : Layer). IsBefore (key_of y) (key_of z))) (sym is) tt)
+      (λ is. subst (AllByRecursion (λ (y : Layer). IsKeyBefore (key_of y) (key_of z))) (sym is) tt)
       (λ h.
       let same : h.0 ≡ z = (snoc_same h.2.own_front left h.0 z (sym h.2.own_parts ∙ parts)).1 in
-      all_before others h.2.others_front h.1 z p h.2.others_parts (subst (λ (l : Layer). IsBefore (key_of h.1) (key_of l)) same h.3))
+      all_before others h.2.others_front h.1 z p h.2.others_parts (subst (λ (l : Layer). IsKeyBefore (key_of h.1) (key_of l)) same h.3))
       last.1;
   shorter = omega (arith, ap length parts, length-append left (z ∷ []));
 }
@@ -129,7 +129,7 @@ module _ (a b r : Layer) (same : key_of a ≡ key_of b) (tie : IsTieOf a b) (whi
   key_b : key_of b ≡ key_of r
   key_b = sym same ∙ key_a
 
-  from : Has (a ∷ b ∷ []) r
+  from : HasElement (a ∷ b ∷ []) r
   from = ⊎_elim (λ h. inl (sym h.0)) (λ h. inr (inl (sym h.0))) which
 
   -- the greater one speaks for the other one
@@ -167,8 +167,8 @@ takes_equal own others own_left others_left a b r o p ties last own_parts others
     let x-a : last.0 ≡ a = (snoc_same last.2.own_front own_left last.0 a (sym last.2.own_parts ∙ own_parts)).1 in
     let y-b : last.1 ≡ b = (snoc_same last.2.others_front others_left last.1 b (sym last.2.others_parts ∙ others_parts)).1 in
     let same : key_of a ≡ key_of b = sym (ap key_of x-a) ∙ last.3 ∙ ap key_of y-b in
-    let P : List Layer → Type 0 = λ ls. Has ls a in
-    let Q : List Layer → Type 0 = λ ls. Has ls b in
+    let P : List Layer → Type 0 = λ ls. HasElement ls a in
+    let Q : List Layer → Type 0 = λ ls. HasElement ls b in
     let tie = ties a b (subst P (sym own_parts) (has_right own_left (a ∷ []) a (inl refl))) (subst Q (sym others_parts) (has_right others_left (b ∷ []) b (inl refl))) in
     record {
       own_taken = a ∷ [];
@@ -203,17 +203,17 @@ tied_alone own other at gap = record {
   layer = λ each is. is;
   covered = covers_itself of_layers (own ++ other ∷ []) other (has_right own (other ∷ []) other (inl refl));
   covers = covers_itself of_layers (other ∷ []) other (inl refl);
-  ties = all_by (λ (x : Layer). IsTieOf x other) own (λ x h same revision. absurd (none x (let P : List Layer → Type 0 = λ ls. Has ls x in subst P gap.parts h) same));
+  ties = all_by (λ (x : Layer). IsTieOf x other) own (λ x h same revision. absurd (none x (let P : List Layer → Type 0 = λ ls. HasElement ls x in subst P gap.parts h) same));
 }
   where
-    none : (x : Layer) → Has (gap.front ++ gap.back) x → key_of x ≡ key_of other → ⊥
+    none : (x : Layer) → HasElement (gap.front ++ gap.back) x → key_of x ≡ key_of other → ⊥
     none x h e = ⊎_elim
-        (λ g. not_before_same (key_of x) (key_of other) (all_at (λ (y : Layer). IsBefore (key_of y) (key_of other)) gap.front x gap.before g) e)
-        (λ g. not_before_same (key_of other) (key_of x) (all_at (λ (y : Layer). IsBefore (key_of other) (key_of y)) gap.back x gap.behind g) (sym e))
+        (λ g. not_before_same (key_of x) (key_of other) (all_at (λ (y : Layer). IsKeyBefore (key_of y) (key_of other)) gap.front x gap.before g) e)
+        (λ g. not_before_same (key_of other) (key_of x) (all_at (λ (y : Layer). IsKeyBefore (key_of other) (key_of y)) gap.back x gap.behind g) (sym e))
         (has-append gap.front gap.back x h)
 
 -- a list that has one
-pub tied_to : (own : List Layer) (l other tied : Layer) → IsInOrder own → Has own l → key_of l ≡ key_of other → IsTiedWith l other tied → IsTied own other tied
+pub tied_to : (own : List Layer) (l other tied : Layer) → IsInOrder own → HasElement own l → key_of l ≡ key_of other → IsTiedWith l other tied → IsTied own other tied
 tied_to own l other tied order here same is = record {
   same = is.same;
   layer = λ each layer. subst IsLayer (sym is.same) (record {
@@ -265,7 +265,7 @@ other_revision layer other differs = record {
   refuses = λ path question. (λ h. inl h, ⊎_elim (λ h. h) (λ h. absurd (differs h.0)));
 }
 
-pub same_revision : (layer other : Layer) (more content : Table) → layer.revision ≡ other.revision → more ≡ layer.content → Adds other.content (language.table_refuses more) content → language.IsValid content
+pub same_revision : (layer other : Layer) (more content : Table) → layer.revision ≡ other.revision → more ≡ layer.content → AddsRefusals other.content (language.table_refuses more) content → language.IsValid content
     → IsTiedWith layer other (record other { content = content })
 same_revision layer other more content same is adds valid = record {
   same = refl;

@@ -2,18 +2,18 @@
 use Rattle.std.proofs.Common.{◌≡◌, ◌≢◌, ◌⊎◌, inl, inr, ⊎_elim, ℕ, zero, suc, ◌+◌, ◌<◌, ◌≤◌, List, [], ◌∷◌, ◌++◌, append-nil, append_assoc, length, take, drop, get_or, refl, sym, ap, ◌∙◌, subst, arith}
 use Rattle.std.proofs.lemmas.List.{length-append, length-take, take_more, take_all}
 use Rattle.std.proofs.lemmas.Bool.{cases_lt}
-use Rattle.cue_layers.specs.Names.{IsName, IsBadAt, BeginsName, EndsName, MayFollow, slash, name_limit}
-use Rattle.cue_layers.specs.Inner.Naming.{MayStand, Follow, last_of}
+use Rattle.cue_layers.specs.Names.{IsLayerName, IsBadAt, BeginsName, EndsName, MayFollow, slash, name_limit}
+use Rattle.cue_layers.specs.Inner.Naming.{MayStand, NameFollows, last_of}
 
-pub ends_split : (before : ℕ) (xs ys : List ℕ) → EndsName before (xs ++ ys) → Follow before xs × EndsName (last_of before xs) ys
+pub ends_split : (before : ℕ) (xs ys : List ℕ) → EndsName before (xs ++ ys) → NameFollows before xs × EndsName (last_of before xs) ys
 ends_split before [] ys e = (tt, e)
 ends_split before (x ∷ xs) ys e = let r = ends_split x xs ys e.1 in ((e.0, r.0), r.1)
 
-pub ends_both : (before : ℕ) (xs ys : List ℕ) → Follow before xs → EndsName (last_of before xs) ys → EndsName before (xs ++ ys)
+pub ends_both : (before : ℕ) (xs ys : List ℕ) → NameFollows before xs → EndsName (last_of before xs) ys → EndsName before (xs ++ ys)
 ends_both before [] ys f e = e
 ends_both before (x ∷ xs) ys f e = (f.0, ends_both x xs ys f.1 e)
 
-pub follow_more : (before : ℕ) (xs : List ℕ) (b : ℕ) → Follow before xs → MayFollow (last_of before xs) b → Follow before (xs ++ b ∷ [])
+pub follow_more : (before : ℕ) (xs : List ℕ) (b : ℕ) → NameFollows before xs → MayFollow (last_of before xs) b → NameFollows before (xs ++ b ∷ [])
 follow_more before [] b f m = (m, tt)
 follow_more before (x ∷ xs) b f m = (f.0, follow_more x xs b f.1 m)
 
@@ -23,7 +23,7 @@ last_more before (x ∷ xs) b = last_more x xs b
 
 -- how far the bytes are those of some name
 pub record IsSoFar (front : List ℕ) (before : ℕ) : Type 0 where
-  pub follow : Follow slash front
+  pub follow : NameFollows slash front
   pub last : before ≡ last_of slash front
   pub few : length front ≤ name_limit
   pub ends : length front ≡ name_limit → before ≢ slash
@@ -43,7 +43,7 @@ one_more front before b far stands =
     }
 
 -- no name has a byte where it may not stand
-pub no_name : (front : List ℕ) (before b : ℕ) (more : List ℕ) → IsSoFar front before → ¬ MayStand (length front) before b → ¬ IsName (front ++ b ∷ more)
+pub no_name : (front : List ℕ) (before b : ℕ) (more : List ℕ) → IsSoFar front before → ¬ MayStand (length front) before b → ¬ IsLayerName (front ++ b ∷ more)
 no_name front before b more far bad is = bad (few, follows, ends more refl)
   where
     len : length (front ++ b ∷ more) ≡ length front + suc (length more)
@@ -86,7 +86,7 @@ bad_here front before b more far bad = record {
   longest = λ longer lt le is.
       let cut = longer_of front b more longer lt in
       no_name front before b (cut.0 ++ is.0) far bad
-      (subst IsName (ap (λ (xs : List ℕ). xs ++ is.0) cut.1 ∙ append_assoc front (b ∷ cut.0) is.0) is.1);
+      (subst IsLayerName (ap (λ (xs : List ℕ). xs ++ is.0) cut.1 ∙ append_assoc front (b ∷ cut.0) is.0) is.1);
 }
   where
     front_of : (xs ys : List ℕ) → take (length xs) (xs ++ ys) ≡ xs
@@ -107,7 +107,7 @@ bad_end name before far is = record {
   longest = λ longer lt le. absurd (omega arith);
 }
 
-pub is_name : (name : List ℕ) (before : ℕ) → IsSoFar name before → before ≢ slash → IsName name
+pub is_name : (name : List ℕ) (before : ℕ) → IsSoFar name before → before ≢ slash → IsLayerName name
 is_name name before far is = (far.few, subst (EndsName slash) (append-nil name) (ends_both slash name [] far.follow (subst (λ (n : ℕ). n ≢ slash) far.last is)))
 
 -- a list at an index

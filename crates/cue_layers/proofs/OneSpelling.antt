@@ -12,8 +12,8 @@ use Rattle.cue_replica.proofs.Sound.{sound}
 use Rattle.cue_layers.specs.declared.layer.Layer.{Layer}
 use Rattle.cue_layers.specs.Bytes.{layer_bytes, IsLayersBytes}
 use Rattle.cue_layers.specs.Layers.{key, key_of, IsCommons, IsMap}
-use Rattle.cue_layers.specs.Maps.{IsMapOf, commons_put, put_of}
-use Rattle.cue_layers.specs.Puts.{Put, Has, of_layers, of_puts}
+use Rattle.cue_layers.specs.Maps.{IsMapOfPuts, commons_put, put_of}
+use Rattle.cue_layers.specs.Puts.{Put, HasElement, of_layers, of_puts}
 use Rattle.cue_layers.specs.Inner.Covers.{IsCovered, Covers}
 use Rattle.cue_layers.specs.Inner.Reading.{IsHeld}
 use Rattle.cue_layers.proofs.Covers.{alike_current}
@@ -39,12 +39,12 @@ one_of_bytes bytes a b small is other =
     (one_list IsHeld layer_bytes one_layer a b [] [] here.0 there.0 same.0 (append-nil (flat_map layer_bytes a) ∙ same.1 ∙ sym (append-nil (flat_map layer_bytes b)))).0
 
 -- ---- a map, of its layers as puts
-has_put : (layers : List Layer) (layer : Layer) → Has layers layer → Has (map put_of layers) (put_of layer)
+has_put : (layers : List Layer) (layer : Layer) → HasElement layers layer → HasElement (map put_of layers) (put_of layer)
 has_put [] layer h = absurd h
 has_put (l ∷ ls) layer (inl e) = inl (ap put_of e)
 has_put (l ∷ ls) layer (inr h) = inr (has_put ls layer h)
 
-put_found : (layers : List Layer) (put : Put) → Has (map put_of layers) put → (layer : Layer) × Has layers layer × (put_of layer ≡ put)
+put_found : (layers : List Layer) (put : Put) → HasElement (map put_of layers) put → (layer : Layer) × HasElement layers layer × (put_of layer ≡ put)
 put_found [] put h = absurd h
 put_found (l ∷ ls) put (inl e) = (l, inl refl, e)
 put_found (l ∷ ls) put (inr h) = let r = put_found ls put h in (r.0, inr r.1, r.2)
@@ -75,11 +75,11 @@ module _ (layers : List Layer) (is_map : IsMap layers) (held : AllByRecursion Is
         refused = λ path question r. (found.0, found.1, refl, inr (refl, ⊎_elim (λ s. ((sound.reads_own found.0.content good.is_layer.valid good.long).1 path question).0 s) (λ no. absurd no) r));
       })
 
-  pub of_itself : IsMapOf (map put_of layers) layers
+  pub of_itself : IsMapOfPuts (map put_of layers) layers
   of_itself = record {
     is_map = is_map;
     current = alike_current of_puts (commons_put [] ∷ map put_of layers) layers is_map.in_order (layers_covered, puts_covered);
   }
 
-pub map_of_bytes : (bytes : List ℕ) (layers : List Layer) → length bytes < 2 ^ 64 → IsLayersBytes bytes layers → IsMapOf (map put_of layers) layers
+pub map_of_bytes : (bytes : List ℕ) (layers : List Layer) → length bytes < 2 ^ 64 → IsLayersBytes bytes layers → IsMapOfPuts (map put_of layers) layers
 map_of_bytes bytes layers small is = of_itself layers is.is_map (held_in bytes layers small is).0

@@ -7,22 +7,22 @@ use Rattle.cue_policies.specs.declared.kind.LayerKind.{LayerKind}
 use Rattle.cue_policies.specs.declared.kind.LayerKind.TheVariants as kinds
 use Rattle.cue_policies.specs.WellFormed.{IsWellFormed}
 use Rattle.cue_replica.specs.Accepted.{IsAcceptable}
-use Rattle.cue_replica.specs.Language.{Table, language, opening}
+use Rattle.cue_replica.specs.Language.{Table, language, empty_site}
 use Rattle.cue_replica.proofs.Accepted.{new_site}
 use Rattle.cue_layers.specs.declared.layer.Layer.{Layer}
 use Rattle.cue_layers.specs.declared.refusal.LayersRefusal.{LayersRefusal}
 use Rattle.cue_layers.specs.declared.refusal.LayersRefusal.TheVariants.{RevisionsUsed}
-use Rattle.cue_layers.specs.Join.{IsPut}
+use Rattle.cue_layers.specs.Join.{IsOnePut}
 use Rattle.cue_layers.specs.Layers.{key, key_of, IsLayer}
-use Rattle.cue_layers.specs.Maps.{IsMapOf, commons_put}
-use Rattle.cue_layers.specs.Names.{IsName}
+use Rattle.cue_layers.specs.Maps.{IsMapOfPuts, commons_put}
+use Rattle.cue_layers.specs.Names.{IsLayerName}
 use Rattle.cue_layers.specs.Puts.{Put, of_layers, of_puts, IsUsedUp}
 use Rattle.cue_layers.specs.Refusals.{MayBe, IsPutRefusal, out_of_memory}
 use Rattle.cue_layers.specs.Inner.Covers.{IsCovered, Covers}
 use Rattle.cue_layers.specs.Inner.Putting.{Replaces}
 use Rattle.cue_layers.proofs.Covers.{alike_current}
 
-module _ (x : Layer) (kind : x.kind ≡ kinds.Layer) (name : x.name ≡ []) (revision : x.revision ≡ 0) (content : x.content ≡ opening) where
+module _ (x : Layer) (kind : x.kind ≡ kinds.Layer) (name : x.name ≡ []) (revision : x.revision ≡ 0) (content : x.content ≡ empty_site) where
   says_nothing : IsUnified language x.content []
   says_nothing = let P : Table → Type 0 = λ t. IsUnified language t [] in subst P (sym content) new_site
 
@@ -48,14 +48,14 @@ module _ (x : Layer) (kind : x.kind ≡ kinds.Layer) (name : x.name ≡ []) (rev
     refused = λ path question r. absurd r;
   })) (λ no. absurd no) h
 
-  opening_map_of : IsMapOf [] (x ∷ [])
+  opening_map_of : IsMapOfPuts [] (x ∷ [])
   opening_map_of = record {
     is_map = record { in_order = (tt, tt); commons = record { kind = kind; name = name; revision = revision }; each = (is_layer, tt) };
     current = alike_current of_puts (commons_put [] ∷ []) (x ∷ []) (tt, tt) (covered, covers);
   }
 
-pub opening_map : (ls : List Layer) (x : Layer) → ls ≡ x ∷ [] → x.kind ≡ kinds.Layer → x.name ≡ [] → x.revision ≡ 0 → x.content ≡ opening → IsMapOf [] ls
-opening_map ls x is kind name revision content = subst (IsMapOf []) (sym is) (opening_map_of x kind name revision content)
+pub opening_map : (ls : List Layer) (x : Layer) → ls ≡ x ∷ [] → x.kind ≡ kinds.Layer → x.name ≡ [] → x.revision ≡ 0 → x.content ≡ empty_site → IsMapOfPuts [] ls
+opening_map ls x is kind name revision content = subst (IsMapOfPuts []) (sym is) (opening_map_of x kind name revision content)
 
 -- ---- puts
 
@@ -75,8 +75,8 @@ may_not_be kinds.Policy content pieces unified never may =
     never (λ e. well_same (pieces_refuse language pieces) (language.table_refuses content) (λ path question. ((unified.1 path question).1, (unified.1 path question).0)) may)
 
 pub put_done :
-    (old : List Layer) (kind : LayerKind) (name : List ℕ) (pieces : List Piece) (content : Table) (new : List Layer) (revision : ℕ) → IsName name → AllByRecursion IsAcceptable pieces → IsUnified language content pieces
-    → (kind ≡ kinds.Policy → IsWellFormed (language.table_refuses content)) → Replaces old kind name content new revision → IsPut old kind name pieces new revision
+    (old : List Layer) (kind : LayerKind) (name : List ℕ) (pieces : List Piece) (content : Table) (new : List Layer) (revision : ℕ) → IsLayerName name → AllByRecursion IsAcceptable pieces → IsUnified language content pieces
+    → (kind ≡ kinds.Policy → IsWellFormed (language.table_refuses content)) → Replaces old kind name content new revision → IsOnePut old kind name pieces new revision
 put_done old kind name pieces content new revision named acceptable unified may done = record {
   is_name = named;
   acceptable = acceptable;
@@ -89,7 +89,7 @@ put_done old kind name pieces content new revision named acceptable unified may 
 }
 
 pub put_refused :
-    (old : List Layer) (kind : LayerKind) (name : List ℕ) (pieces : List Piece) (content : Table) (why : LayersRefusal) → IsName name → AllByRecursion IsAcceptable pieces → IsUnified language content pieces
+    (old : List Layer) (kind : LayerKind) (name : List ℕ) (pieces : List Piece) (content : Table) (why : LayersRefusal) → IsLayerName name → AllByRecursion IsAcceptable pieces → IsUnified language content pieces
     → (kind ≡ kinds.Policy → IsWellFormed (language.table_refuses content)) → ((why ≡ RevisionsUsed) × IsUsedUp of_layers old (key kind name)) ⊎ (why ≡ out_of_memory)
     → IsPutRefusal old kind name pieces why
 put_refused old kind name pieces content why named acceptable unified may (inl h) =

@@ -10,7 +10,7 @@ use Rattle.std.specs.declared.cmp.Ordering.TheVariants.{Less, Equal, Greater}
 use Rattle.std.proofs.lemmas.Cmp.{nat_list_cmp_total}
 use Rattle.std.proofs.lemmas.List.{length-take, take-append-drop}
 use Rattle.cue_layers.specs.declared.layer.Layer.{Layer}
-use Rattle.cue_layers.specs.Layers.{Key, key_of, IsBefore, IsInOrder}
+use Rattle.cue_layers.specs.Layers.{Key, key_of, IsKeyBefore, IsInOrder}
 use Rattle.cue_layers.specs.Inner.Places.{IsPlace, IsGap}
 use Rattle.cue_layers.proofs.Keys.{tied_same, greater_before}
 
@@ -25,7 +25,7 @@ reversed_cmp : (a b : Key) (o : Ordering) → slice_cmp nat_cmp a b ≡ o → sl
 reversed_cmp a b o h = nat_list_cmp_total.antisymm b a ∙ ap ordering_reverse h
 
 -- what comes first has no greater rank
-first_rank : (a b k : Key) → IsBefore a b → (o : Ordering) → slice_cmp nat_cmp a k ≡ o → ordering_index o ≤ ordering_index (slice_cmp nat_cmp b k)
+first_rank : (a b k : Key) → IsKeyBefore a b → (o : Ordering) → slice_cmp nat_cmp a k ≡ o → ordering_index o ≤ ordering_index (slice_cmp nat_cmp b k)
 first_rank a b k h Less e = omega arith
 first_rank a b k h Equal e =
     let f : slice_cmp nat_cmp b k ≡ Greater = subst (λ (c : Key). slice_cmp nat_cmp b c ≡ Greater) (tied_same a k e) (reversed_cmp a b Less h) in
@@ -35,7 +35,7 @@ first_rank a b k h Greater e =
     rw (reversed_cmp k b Less f) (omega arith)
 
 -- what is before all others is before each
-before_at : (a : Key) (ls : List Layer) (i : ℕ) (d : Layer) → AllByRecursion (λ l. IsBefore a (key_of l)) ls → i < length ls → IsBefore a (key_of (get_or ls i d))
+before_at : (a : Key) (ls : List Layer) (i : ℕ) (d : Layer) → AllByRecursion (λ l. IsKeyBefore a (key_of l)) ls → i < length ls → IsKeyBefore a (key_of (get_or ls i d))
 before_at a [] i d all lt = absurd (omega arith)
 before_at a (l ∷ ls) zero d all lt = all.0
 before_at a (l ∷ ls) (suc i) d all lt = before_at a ls i d all.1 (omega arith)
@@ -88,6 +88,6 @@ searched ls k (Err at) o bound found =
       back = drop at ls;
       parts = sym (take-append-drop at ls);
       count = omega (arith, length-take at ls, bound);
-      before = front_all (λ l. IsBefore (key_of l) k) ls at bound (λ i d lt. point.0 i d (omega arith) lt);
-      behind = back_all (λ l. IsBefore k (key_of l)) ls at (λ i d low lt. greater_before (key_of (get_or ls i d)) k (point.1 i d low lt));
+      before = front_all (λ l. IsKeyBefore (key_of l) k) ls at bound (λ i d lt. point.0 i d (omega arith) lt);
+      behind = back_all (λ l. IsKeyBefore k (key_of l)) ls at (λ i d low lt. greater_before (key_of (get_or ls i d)) k (point.1 i d low lt));
     }

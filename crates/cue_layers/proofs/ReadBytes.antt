@@ -5,7 +5,7 @@ use Rattle.std.specs.List.{flat_map, AllByRecursion}
 use Rattle.std.proofs.lemmas.List.{length-append}
 use Rattle.std.proofs.lemmas.List.Concat.{flat_map-cons}
 use Rattle.cue_codec.specs.Parts.{text_bytes}
-use Rattle.cue_codec.specs.Reading.{Begins, BeginsNone, IsShort, number_at}
+use Rattle.cue_codec.specs.Reading.{ReadsItem, ReadsNoItem, IsShort, number_at}
 use Rattle.cue_codec.proofs.Codes.{OneItem, IsWide as IsWidth, same_fronts, wide16, wide64, one_number}
 use Rattle.cue_codec.proofs.Numbers.{IsBytes, IsRead, read16, read64, number_takes, number_missing}
 use Rattle.cue_policies.specs.declared.kind.LayerKind.{LayerKind}
@@ -16,14 +16,14 @@ use Rattle.cue_lattice.specs.Question.{SameAnswers}
 use Rattle.cue_layers.specs.declared.layer.Layer.{Layer}
 use Rattle.cue_layers.specs.Bytes.{block_bytes, layer_bytes}
 use Rattle.cue_layers.specs.Layers.{IsLayer, kind_byte}
-use Rattle.cue_layers.specs.Inner.Reading.{AreBoth, both_bytes, IsKind, kind_bytes, IsWide, wide_bytes, IsLong, Parts, AreParts, parts_bytes, parts_of, IsHeld, HasShortName}
+use Rattle.cue_layers.specs.Inner.Reading.{AreBoth, both_bytes, IsKind, kind_bytes, IsWide, wide_bytes, IsLong, LayerParts, AreParts, parts_bytes, parts_of, IsHeld, HasShortName}
 use Rattle.cue_layers.proofs.Maps.{same_layer}
 
 -- ---- one thing and another one behind it
 
 pub both_found :
     {A B : Type 0} (va : A → Type 0) (ca : A → List ℕ) (vb : B → Type 0) (cb : B → List ℕ) (a : A) (b : B) (bytes middle rest : List ℕ)
-    → Begins va ca a bytes middle → Begins vb cb b middle rest → Begins (AreBoth va vb) (both_bytes ca cb) (a, b) bytes rest
+    → ReadsItem va ca a bytes middle → ReadsItem vb cb b middle rest → ReadsItem (AreBoth va vb) (both_bytes ca cb) (a, b) bytes rest
 both_found va ca vb cb a b bytes middle rest x y = record {
   value = (x.value, y.value);
   parts = x.parts ∙ ap (λ (t : List ℕ). ca a ++ t) y.parts ∙ sym (append_assoc (ca a) (cb b) rest);
@@ -37,12 +37,12 @@ one_both va ca vb cb oa ob x y r s vx vy e =
     (λ i. (f.0 i, g.0 i), g.1)
 
 pub first_missing :
-    {A B : Type 0} (va : A → Type 0) (ca : A → List ℕ) (vb : B → Type 0) (cb : B → List ℕ) (bytes : List ℕ) → BeginsNone va ca bytes → BeginsNone (AreBoth va vb) (both_bytes ca cb) bytes
+    {A B : Type 0} (va : A → Type 0) (ca : A → List ℕ) (vb : B → Type 0) (cb : B → List ℕ) (bytes : List ℕ) → ReadsNoItem va ca bytes → ReadsNoItem (AreBoth va vb) (both_bytes ca cb) bytes
 first_missing va ca vb cb bytes none = λ x s h e. none x.0 (cb x.1 ++ s) h.0 (e ∙ append_assoc (ca x.0) (cb x.1) s)
 
 pub second_missing :
-    {A B : Type 0} (va : A → Type 0) (ca : A → List ℕ) (vb : B → Type 0) (cb : B → List ℕ) (a : A) (bytes middle : List ℕ) → OneItem va ca → Begins va ca a bytes middle → BeginsNone vb cb middle
-    → BeginsNone (AreBoth va vb) (both_bytes ca cb) bytes
+    {A B : Type 0} (va : A → Type 0) (ca : A → List ℕ) (vb : B → Type 0) (cb : B → List ℕ) (a : A) (bytes middle : List ℕ) → OneItem va ca → ReadsItem va ca a bytes middle → ReadsNoItem vb cb middle
+    → ReadsNoItem (AreBoth va vb) (both_bytes ca cb) bytes
 second_missing va ca vb cb a bytes middle one x none = λ y s h e.
     let same = one a y.0 middle (cb y.1 ++ s) x.value h.0 (sym x.parts ∙ e ∙ append_assoc (ca y.0) (cb y.1) s) in
     none y.1 s h.1 same.1
@@ -61,7 +61,7 @@ module _ (w : Width) (limit : ℕ) (wide : IsWidth w limit) (reads : IsRead w li
       let f = one_number w limit wide (length x) (length y) (x ++ r) (y ++ s) lx ly (sym (parts_behind x r) ∙ e ∙ parts_behind y s) in
       same_fronts x y r s f.0 f.1
 
-  behind_found : (bytes rest front after : List ℕ) (n : ℕ) → IsBytes bytes → Some (n, rest) ≡ number_at w bytes → rest ≡ front ++ after → length front ≡ n → Begins (λ bytes. length bytes < limit) behind front bytes after
+  behind_found : (bytes rest front after : List ℕ) (n : ℕ) → IsBytes bytes → Some (n, rest) ≡ number_at w bytes → rest ≡ front ++ after → length front ≡ n → ReadsItem (λ bytes. length bytes < limit) behind front bytes after
   behind_found bytes rest front after n fits is parts len =
       let takes = number_takes w limit reads bytes n rest fits is in
       record {
@@ -69,11 +69,11 @@ module _ (w : Width) (limit : ℕ) (wide : IsWidth w limit) (reads : IsRead w li
         parts = takes.0 ∙ ap (λ (t : List ℕ). to_be_bytes w n ++ t) parts ∙ ap (λ (m : ℕ). to_be_bytes w m ++ (front ++ after)) (sym len) ∙ sym (parts_behind front after);
       }
 
-  behind_short : (bytes : List ℕ) → None ≡ number_at w bytes → BeginsNone (λ bytes. length bytes < limit) behind bytes
+  behind_short : (bytes : List ℕ) → None ≡ number_at w bytes → ReadsNoItem (λ bytes. length bytes < limit) behind bytes
   behind_short bytes is = λ t r h e.
       omega (arith, number_missing w bytes is, ap length (e ∙ parts_behind t r), length-append (to_be_bytes w (length t)) (t ++ r), wide.len (length t))
 
-  behind_cut : (bytes rest : List ℕ) (n : ℕ) → IsBytes bytes → Some (n, rest) ≡ number_at w bytes → length rest < n → BeginsNone (λ bytes. length bytes < limit) behind bytes
+  behind_cut : (bytes rest : List ℕ) (n : ℕ) → IsBytes bytes → Some (n, rest) ≡ number_at w bytes → length rest < n → ReadsNoItem (λ bytes. length bytes < limit) behind bytes
   behind_cut bytes rest n fits is short = λ t r h e.
       let takes = number_takes w limit reads bytes n rest fits is in
       let same = one_number w limit wide n (length t) rest (t ++ r) takes.1 h (sym takes.0 ∙ e ∙ parts_behind t r) in
@@ -84,15 +84,15 @@ pub one_short : OneItem IsShort text_bytes
 unfolding text_bytes
 one_short = one_behind w16 (2 ^ 16) wide16 read16
 
-pub short_found : (bytes rest front after : List ℕ) (n : ℕ) → IsBytes bytes → Some (n, rest) ≡ number_at w16 bytes → rest ≡ front ++ after → length front ≡ n → Begins IsShort text_bytes front bytes after
+pub short_found : (bytes rest front after : List ℕ) (n : ℕ) → IsBytes bytes → Some (n, rest) ≡ number_at w16 bytes → rest ≡ front ++ after → length front ≡ n → ReadsItem IsShort text_bytes front bytes after
 unfolding text_bytes
 short_found = behind_found w16 (2 ^ 16) wide16 read16
 
-pub short_none : (bytes : List ℕ) → None ≡ number_at w16 bytes → BeginsNone IsShort text_bytes bytes
+pub short_none : (bytes : List ℕ) → None ≡ number_at w16 bytes → ReadsNoItem IsShort text_bytes bytes
 unfolding text_bytes
 short_none = behind_short w16 (2 ^ 16) wide16 read16
 
-pub short_cut : (bytes rest : List ℕ) (n : ℕ) → IsBytes bytes → Some (n, rest) ≡ number_at w16 bytes → length rest < n → BeginsNone IsShort text_bytes bytes
+pub short_cut : (bytes rest : List ℕ) (n : ℕ) → IsBytes bytes → Some (n, rest) ≡ number_at w16 bytes → length rest < n → ReadsNoItem IsShort text_bytes bytes
 unfolding text_bytes
 short_cut = behind_cut w16 (2 ^ 16) wide16 read16
 
@@ -101,15 +101,15 @@ pub one_block : OneItem IsLong block_bytes
 unfolding block_bytes
 one_block = one_behind w64 (2 ^ 64) wide64 read64
 
-pub block_found : (bytes rest front after : List ℕ) (n : ℕ) → IsBytes bytes → Some (n, rest) ≡ number_at w64 bytes → rest ≡ front ++ after → length front ≡ n → Begins IsLong block_bytes front bytes after
+pub block_found : (bytes rest front after : List ℕ) (n : ℕ) → IsBytes bytes → Some (n, rest) ≡ number_at w64 bytes → rest ≡ front ++ after → length front ≡ n → ReadsItem IsLong block_bytes front bytes after
 unfolding block_bytes
 block_found = behind_found w64 (2 ^ 64) wide64 read64
 
-pub block_none : (bytes : List ℕ) → None ≡ number_at w64 bytes → BeginsNone IsLong block_bytes bytes
+pub block_none : (bytes : List ℕ) → None ≡ number_at w64 bytes → ReadsNoItem IsLong block_bytes bytes
 unfolding block_bytes
 block_none = behind_short w64 (2 ^ 64) wide64 read64
 
-pub block_cut : (bytes rest : List ℕ) (n : ℕ) → IsBytes bytes → Some (n, rest) ≡ number_at w64 bytes → length rest < n → BeginsNone IsLong block_bytes bytes
+pub block_cut : (bytes rest : List ℕ) (n : ℕ) → IsBytes bytes → Some (n, rest) ≡ number_at w64 bytes → length rest < n → ReadsNoItem IsLong block_bytes bytes
 unfolding block_bytes
 block_cut = behind_cut w64 (2 ^ 64) wide64 read64
 
@@ -117,10 +117,10 @@ block_cut = behind_cut w64 (2 ^ 64) wide64 read64
 pub one_wide : OneItem IsWide wide_bytes
 one_wide m n r s lm ln e = one_number w64 (2 ^ 64) wide64 m n r s lm ln e
 
-pub wide_found : (bytes rest : List ℕ) (n : ℕ) → IsBytes bytes → Some (n, rest) ≡ number_at w64 bytes → Begins IsWide wide_bytes n bytes rest
+pub wide_found : (bytes rest : List ℕ) (n : ℕ) → IsBytes bytes → Some (n, rest) ≡ number_at w64 bytes → ReadsItem IsWide wide_bytes n bytes rest
 wide_found bytes rest n fits is = let takes = number_takes w64 (2 ^ 64) read64 bytes n rest fits is in record { value = takes.1; parts = takes.0 }
 
-pub wide_none : (bytes : List ℕ) → None ≡ number_at w64 bytes → BeginsNone IsWide wide_bytes bytes
+pub wide_none : (bytes : List ℕ) → None ≡ number_at w64 bytes → ReadsNoItem IsWide wide_bytes bytes
 wide_none bytes is = λ n r h e. omega (arith, number_missing w64 bytes is, ap length e, length-append (to_be_bytes w64 n) r, wide64.len n)
 
 -- a kind
@@ -130,17 +130,17 @@ one_kind kinds.Policy kinds.Policy r s a b e = (refl, cc)
 one_kind kinds.Layer kinds.Policy r s a b e = absurd cc
 one_kind kinds.Policy kinds.Layer r s a b e = absurd cc
 
-pub kind_found : (bytes rest : List ℕ) (b : ℕ) (kind : LayerKind) → bytes ≡ b ∷ rest → b ≡ kind_byte kind → Begins IsKind kind_bytes kind bytes rest
+pub kind_found : (bytes rest : List ℕ) (b : ℕ) (kind : LayerKind) → bytes ≡ b ∷ rest → b ≡ kind_byte kind → ReadsItem IsKind kind_bytes kind bytes rest
 kind_found bytes rest b kind parts is = record { value = tt; parts = parts ∙ ap (λ (x : ℕ). x ∷ rest) is }
 
-pub no_kind : (bytes rest : List ℕ) (b : ℕ) → bytes ≡ b ∷ rest → b ≢ 0 → b ≢ 1 → BeginsNone IsKind kind_bytes bytes
+pub no_kind : (bytes rest : List ℕ) (b : ℕ) → bytes ≡ b ∷ rest → b ≢ 0 → b ≢ 1 → ReadsNoItem IsKind kind_bytes bytes
 no_kind bytes rest b parts not_zero not_one = by
   where
     by : (kind : LayerKind) (r : List ℕ) → IsKind kind → bytes ≡ (kind_byte kind ∷ []) ++ r → ⊥
     by kinds.Layer r h e = not_zero (let same : b ∷ rest ≡ 0 ∷ r = sym parts ∙ e in cc)
     by kinds.Policy r h e = not_one (let same : b ∷ rest ≡ 1 ∷ r = sym parts ∙ e in cc)
 
-pub no_byte : (bytes : List ℕ) → bytes ≡ [] → BeginsNone IsKind kind_bytes bytes
+pub no_byte : (bytes : List ℕ) → bytes ≡ [] → ReadsNoItem IsKind kind_bytes bytes
 no_byte bytes is = λ kind r h e. let same : [] ≡ kind_byte kind ∷ r = sym is ∙ e in cc
 
 pub one_key : OneItem (AreBoth IsKind IsShort) (both_bytes kind_bytes text_bytes)
@@ -180,25 +180,25 @@ same_content a b va vb held e =
 -- the parts tell the layer
 pub same_parts : (a b : Layer) → IsHeld a → IsHeld b → parts_of a ≡ parts_of b → a ≡ b
 same_parts a b ha hb e =
-    same_layer a b (ap (λ (p : Parts). p.0.0) e) (ap (λ (p : Parts). p.0.1) e) (ap (λ (p : Parts). p.1.0) e)
-    (same_content a.content b.content ha.is_layer.valid hb.is_layer.valid ha.long (ap (λ (p : Parts). p.1.1) e))
+    same_layer a b (ap (λ (p : LayerParts). p.0.0) e) (ap (λ (p : LayerParts). p.0.1) e) (ap (λ (p : LayerParts). p.1.0) e)
+    (same_content a.content b.content ha.is_layer.valid hb.is_layer.valid ha.long (ap (λ (p : LayerParts). p.1.1) e))
 
 pub one_layer : OneItem IsHeld layer_bytes
 one_layer x y r s hx hy e =
     let same = one_parts (parts_of x) (parts_of y) r s (parts_are x hx) (parts_are y hy) (sym (layer_code x r) ∙ e ∙ layer_code y s) in
     (same_parts x y hx hy same.0, same.1)
 
-pub no_parts : (bytes : List ℕ) → BeginsNone AreParts parts_bytes bytes → BeginsNone IsHeld layer_bytes bytes
+pub no_parts : (bytes : List ℕ) → ReadsNoItem AreParts parts_bytes bytes → ReadsNoItem IsHeld layer_bytes bytes
 no_parts bytes none = λ l r held e. none (parts_of l) r (parts_are l held) (e ∙ layer_code l r)
 
-pub bad_parts : (p : Parts) (bytes rest : List ℕ) → Begins AreParts parts_bytes p bytes rest → ((l : Layer) → IsHeld l → parts_of l ≡ p → ⊥) → BeginsNone IsHeld layer_bytes bytes
+pub bad_parts : (p : LayerParts) (bytes rest : List ℕ) → ReadsItem AreParts parts_bytes p bytes rest → ((l : Layer) → IsHeld l → parts_of l ≡ p → ⊥) → ReadsNoItem IsHeld layer_bytes bytes
 bad_parts p bytes rest begins bad = λ l r held e.
     bad l held (sym (one_parts p (parts_of l) rest r begins.value (parts_are l held) (sym begins.parts ∙ e ∙ layer_code l r)).0)
 
-pub layer_found : (p : Parts) (l : Layer) (bytes rest : List ℕ) → Begins AreParts parts_bytes p bytes rest → IsLayer l → parts_of l ≡ p → Begins IsHeld layer_bytes l bytes rest
+pub layer_found : (p : LayerParts) (l : Layer) (bytes rest : List ℕ) → ReadsItem AreParts parts_bytes p bytes rest → IsLayer l → parts_of l ≡ p → ReadsItem IsHeld layer_bytes l bytes rest
 layer_found p l bytes rest begins is same = record {
-  value = record { is_layer = is; long = let P : Parts → Type 0 = λ q. IsLong q.1.1 in subst P (sym same) begins.value.1.1 };
-  parts = begins.parts ∙ ap (λ (q : Parts). parts_bytes q ++ rest) (sym same) ∙ sym (layer_code l rest);
+  value = record { is_layer = is; long = let P : LayerParts → Type 0 = λ q. IsLong q.1.1 in subst P (sym same) begins.value.1.1 };
+  parts = begins.parts ∙ ap (λ (q : LayerParts). parts_bytes q ++ rest) (sym same) ∙ sym (layer_code l rest);
 }
 
 -- ---- whole maps

@@ -8,16 +8,16 @@ use Rattle.std.proofs.lemmas.Str.{IsUtf8-from_ascii}
 use Rattle.std.proofs.lemmas.Str.Ascii.{IsAscii-nil, IsAscii-cons}
 use Rattle.std.proofs.lemmas.List.{length-append}
 use Rattle.cue_codec.specs.Parts.{counted_bytes}
-use Rattle.cue_codec.specs.Reading.{Begins, BeginsNone, number_at}
+use Rattle.cue_codec.specs.Reading.{ReadsItem, ReadsNoItem, number_at}
 use Rattle.cue_codec.specs.Inner.Reading.{AreSo}
 use Rattle.cue_codec.proofs.Codes.{list_step, all_more, one_list, one_number, wide64}
 use Rattle.cue_codec.proofs.Numbers.{IsBytes, number_takes, number_missing, read64}
 use Rattle.cue_policies.specs.declared.kind.LayerKind.{LayerKind}
 use Rattle.cue_layers.specs.declared.layer.Layer.{Layer}
 use Rattle.cue_layers.specs.Bytes.{layer_bytes}
-use Rattle.cue_layers.specs.Layers.{key_of, IsBefore, IsLayer, IsMap, IsCommons, BeginsWithCommons}
+use Rattle.cue_layers.specs.Layers.{key_of, IsKeyBefore, IsLayer, IsMap, IsCommons, BeginsWithCommons}
 use Rattle.cue_layers.specs.Names.{EndsName, MayFollow, IsWordByte}
-use Rattle.cue_layers.specs.Puts.{Has}
+use Rattle.cue_layers.specs.Puts.{HasElement}
 use Rattle.cue_layers.specs.Inner.Reading.{IsHeld, MayHave, AreFront, IsBehind, AreSoManyOfMap}
 use Rattle.cue_layers.proofs.Keys.{order_both, order_across}
 use Rattle.cue_layers.proofs.Lists.{all_at}
@@ -55,15 +55,15 @@ no_front = record { in_order = tt; commons = inl refl; each = tt }
 
 pub more_front : (ls : List Layer) (l : Layer) → AreFront ls → IsBehind ls l → IsHeld l → AreFront (ls ++ l ∷ [])
 more_front ls l front behind held = record {
-  in_order = order_both ls (l ∷ []) front.in_order (tt, tt) (λ a b h g. ⊎_elim (λ e. subst (λ (z : Layer). IsBefore (key_of a) (key_of z)) e (before a h)) (λ no. absurd no) g);
+  in_order = order_both ls (l ∷ []) front.in_order (tt, tt) (λ a b h g. ⊎_elim (λ e. subst (λ (z : Layer). IsKeyBefore (key_of a) (key_of z)) e (before a h)) (λ no. absurd no) g);
   commons = inr (first ls front.commons behind);
   each = all_more IsHeld ls l front.each held;
 }
   where
-    before : (a : Layer) → Has ls a → IsBefore (key_of a) (key_of l)
+    before : (a : Layer) → HasElement ls a → IsKeyBefore (key_of a) (key_of l)
     before a h = ⊎_elim
-        (λ none. absurd (let P : List Layer → Type 0 = λ xs. Has xs a in subst P none.0 h))
-        (λ some. all_at (λ (z : Layer). IsBefore (key_of z) (key_of l)) ls a (all_before ls some.0 some.1 l front.in_order some.2 some.3) h)
+        (λ none. absurd (let P : List Layer → Type 0 = λ xs. HasElement xs a in subst P none.0 h))
+        (λ some. all_at (λ (z : Layer). IsKeyBefore (key_of z) (key_of l)) ls a (all_before ls some.0 some.1 l front.in_order some.2 some.3) h)
         behind
 
     first : (xs : List Layer) → (xs ≡ []) ⊎ BeginsWithCommons xs → IsBehind xs l → BeginsWithCommons (xs ++ l ∷ [])
@@ -92,7 +92,7 @@ longer (x ∷ xs) (y ∷ ys) l rest after s hx hy hl lt e is =
 -- no map has a layer that is not behind the others
 pub not_behind :
     (count : ℕ) (xs : List Layer) (l : Layer) (bytes rest after : List ℕ) → AreFront xs → IsHeld l → length xs < count → bytes ≡ flat_map layer_bytes xs ++ rest → rest ≡ layer_bytes l ++ after
-    → ¬ IsBehind xs l → BeginsNone (AreSoManyOfMap count) (flat_map layer_bytes) bytes
+    → ¬ IsBehind xs l → ReadsNoItem (AreSoManyOfMap count) (flat_map layer_bytes) bytes
 not_behind count xs l bytes rest after front held lt parts is bad = λ ys s h e.
     let n : length ys ≡ count = h.0 in
     let more = longer xs ys l rest after s front.each h.1 held (omega arith) (sym parts ∙ e) is in
@@ -102,14 +102,14 @@ not_behind count xs l bytes rest after front held lt parts is bad = λ ys s h e.
     behind [] more map = inl (refl, map.commons.name)
     behind (x ∷ xs) more map =
         let p = snoc_parts x xs in
-        let some : Has (x ∷ xs) p.1 = let P : List Layer → Type 0 = λ ls. Has ls p.1 in subst P (sym p.2) (last_in p.0 p.1) in
+        let some : HasElement (x ∷ xs) p.1 = let P : List Layer → Type 0 = λ ls. HasElement ls p.1 in subst P (sym p.2) (last_in p.0 p.1) in
         inr (p.0, p.1, p.2, order_across (x ∷ xs) (l ∷ more) p.1 l map.in_order some (inl refl))
       where
-        last_in : (f : List Layer) (z : Layer) → Has (f ++ z ∷ []) z
+        last_in : (f : List Layer) (z : Layer) → HasElement (f ++ z ∷ []) z
         last_in [] z = inl refl
         last_in (y ∷ f) z = inr (last_in f z)
 
-pub none_of_map : (count : ℕ) (bytes : List ℕ) → BeginsNone (AreSo IsHeld count) (flat_map layer_bytes) bytes → BeginsNone (AreSoManyOfMap count) (flat_map layer_bytes) bytes
+pub none_of_map : (count : ℕ) (bytes : List ℕ) → ReadsNoItem (AreSo IsHeld count) (flat_map layer_bytes) bytes → ReadsNoItem (AreSoManyOfMap count) (flat_map layer_bytes) bytes
 none_of_map count bytes none = λ ys s h e. none ys s (h.0, h.1) e
 
 -- ---- the count in front
@@ -129,7 +129,7 @@ map_by ls front some = record {
     layers [] h = tt
     layers (l ∷ ls) h = (h.0.is_layer, layers ls h.1)
 
-pub map_spelled : (bytes rest after : List ℕ) (count : ℕ) (ls : List Layer) → IsBytes bytes → Some (count, rest) ≡ number_at w64 bytes → Begins (AreSo IsHeld count) (flat_map layer_bytes) ls rest after → after ≡ [] → bytes ≡ counted_bytes layer_bytes ls
+pub map_spelled : (bytes rest after : List ℕ) (count : ℕ) (ls : List Layer) → IsBytes bytes → Some (count, rest) ≡ number_at w64 bytes → ReadsItem (AreSo IsHeld count) (flat_map layer_bytes) ls rest after → after ≡ [] → bytes ≡ counted_bytes layer_bytes ls
 map_spelled bytes rest after count ls fits is begins none =
     let takes = number_takes w64 (2 ^ 64) read64 bytes count rest fits is in
     takes.0 ∙ ap (λ (t : List ℕ). to_be_bytes w64 count ++ t) (begins.parts ∙ ap (λ (t : List ℕ). flat_map layer_bytes ls ++ t) none ∙ append-nil (flat_map layer_bytes ls))
@@ -154,7 +154,7 @@ pub empty_map : (ls : List Layer) → IsMap ls → length ls ≡ 0 → ⊥
 empty_map [] map e = map.commons
 empty_map (l ∷ ls) map e = absurd (omega arith)
 
-pub trailing : (count : ℕ) (xs ys : List Layer) (bytes after : List ℕ) → Begins (AreSo IsHeld count) (flat_map layer_bytes) xs bytes after → AreSoManyOfMap count ys → bytes ≡ flat_map layer_bytes ys ++ [] → after ≡ []
+pub trailing : (count : ℕ) (xs ys : List Layer) (bytes after : List ℕ) → ReadsItem (AreSo IsHeld count) (flat_map layer_bytes) xs bytes after → AreSoManyOfMap count ys → bytes ≡ flat_map layer_bytes ys ++ [] → after ≡ []
 trailing count xs ys bytes after begins h e =
     (one_list IsHeld layer_bytes one_layer xs ys after [] begins.value.1 h.1 (begins.value.0 ∙ sym h.0) (sym begins.parts ∙ e)).1
 

@@ -5,12 +5,12 @@ use Rattle.cue_lattice.specs.Refusal.{memory}
 use Rattle.cue_lattice.specs.declared.refusal.Refusal.{Refusal}
 use Rattle.cue_codec.specs.Entry.{entries_of}
 use Rattle.cue_codec.specs.State.{table_bytes_in}
-use Rattle.cue_codec.specs.Version.{written}
+use Rattle.cue_codec.specs.Version.{written_version}
 use Rattle.cue_codec.specs.declared.version.Version.{Version}
 use Rattle.cue_codec.specs.declared.version.Version.TheVariants as versions
 use Rattle.cue_codec.proofs.WrittenStates.{parts_of_state}
-use Rattle.cue_replica.specs.Language.{Table, language, opening}
-use Rattle.cue_replica.specs.Replica.{Adds}
+use Rattle.cue_replica.specs.Language.{Table, language, empty_site}
+use Rattle.cue_replica.specs.Replica.{AddsRefusals}
 use Rattle.cue_replica.specs.States.{IsTableOf}
 use Rattle.cue_replica.proofs.Accepted.{new_site}
 use Rattle.cue_replica.proofs.Sound.{sound, state_answers}
@@ -21,7 +21,7 @@ use Rattle.cue_layers.specs.Refusals.{out_of_memory}
 
 -- the byte of the version
 pub fifth : (table : Table) → slice_get (language.written table) 4 ≡ Some 2
-fifth table = ap (λ (bytes : List ℕ). slice_get bytes 4) (parts_of_state written (entries_of written table))
+fifth table = ap (λ (bytes : List ℕ). slice_get bytes 4) (parts_of_state written_version (entries_of written_version table))
 
 -- the table of bytes of that version has them
 spelled : (bytes : List ℕ) (table : Table) → IsTableOf bytes table → slice_get bytes 4 ≡ Some 2 → language.written table ≡ bytes
@@ -34,7 +34,7 @@ spelled bytes table is two = by is.spelled.0 is.spelled.2
         absurd (let no : Some 1 ≡ Some 2 = sym one ∙ two in cc)
 
 -- what a new site holds that has accepted them
-pub content_again : (bytes : List ℕ) (old new : Table) → length bytes < 2 ^ 64 → slice_get bytes 4 ≡ Some 2 → old ≡ opening → language.IsState bytes → Adds old (language.state_refuses bytes) new → language.IsValid new → language.written new ≡ bytes
+pub content_again : (bytes : List ℕ) (old new : Table) → length bytes < 2 ^ 64 → slice_get bytes 4 ≡ Some 2 → old ≡ empty_site → language.IsState bytes → AddsRefusals old (language.state_refuses bytes) new → language.IsValid new → language.written new ≡ bytes
 content_again bytes old new held two is state adds valid =
     let table = state.0 in
     let answers = state_answers table bytes held state.1 in

@@ -14,7 +14,7 @@ use Rattle.cue_policies.proofs.ViewLaws.{two}
 use Rattle.cue_replica.specs.Language.{Table, language}
 use Rattle.cue_layers.specs.declared.layer.Layer.{Layer}
 use Rattle.cue_layers.specs.Layers.{IsLayer}
-use Rattle.cue_layers.specs.View.{parts_of, IsViewOf}
+use Rattle.cue_layers.specs.View.{parts_of_layers, IsViewOf}
 use Rattle.cue_layers.specs.Inner.Viewing.{LayerRefuses, AddsLayer}
 
 pub one_map : {X Y : Type 0} (P : Y → Type 0) (f : X → Y) (xs : List X) → OneOf P (map f xs) ↔ OneOf (λ x. P (f x)) xs
@@ -26,7 +26,7 @@ one_map P f (x ∷ xs) =
 -- a table that gathered all layers of a kind is their unification
 pub gathered : (kind : LayerKind) (layers : List Layer) (site : Table)
     → ((path : Path) (question : Question) → language.table_refuses site path question ↔ OneOf (LayerRefuses kind path question) layers)
-    → IsUnifiedOf kind (parts_of layers) site
+    → IsUnifiedOf kind (parts_of_layers layers) site
 gathered kind layers site all path question =
     let a = all path question in
     let m = one_map (λ part. (part.0 ≡ kind) × language.table_refuses part.1 path question) (λ (layer : Layer). (layer.kind, layer.content)) layers in
@@ -48,12 +48,12 @@ more_formed kind layer old new is adds formed e =
     })
 
 -- the view of the two unifications is that of the layers
-pub whole : (all : List Layer) (layers policies view : Table) → IsUnifiedOf kinds.Layer (parts_of all) layers → IsUnifiedOf kinds.Policy (parts_of all) policies → language.IsValid view
+pub whole : (all : List Layer) (layers policies view : Table) → IsUnifiedOf kinds.Layer (parts_of_layers all) layers → IsUnifiedOf kinds.Policy (parts_of_layers all) policies → language.IsValid view
     → SameAnswers (language.table_refuses view) (ViewOfTwo layers policies) → IsViewOf all view
 whole all layers policies view h k valid same = record {
   valid = valid;
   refuses = λ path question.
       let s = same path question in
-      let t = two (parts_of all) layers policies h k path question in
+      let t = two (parts_of_layers all) layers policies h k path question in
       (λ r. t.0 (s.0 r), λ r. s.1 (t.1 r));
 }

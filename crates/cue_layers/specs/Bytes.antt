@@ -9,12 +9,12 @@ use Rattle.cue_layers.specs.declared.layer.Layer.{Layer}
 use Rattle.cue_layers.specs.declared.refusal.LayersRefusal.{LayersRefusal}
 use Rattle.cue_layers.specs.declared.refusal.LayersRefusal.TheVariants.{NotLayers, Store}
 use Rattle.cue_layers.specs.Layers.{IsMap, kind_byte}
-use Rattle.cue_layers.specs.Maps.{IsMapOf, put_of}
+use Rattle.cue_layers.specs.Maps.{IsMapOfPuts, put_of}
 use Rattle.cue_layers.specs.Refusals.{out_of_memory}
 
 -- how all layers bytes begin
-abbrev pub mark : List ℕ
-mark = 254 ∷ 76 ∷ 65 ∷ 89 ∷ []
+abbrev pub layers_mark : List ℕ
+layers_mark = 254 ∷ 76 ∷ 65 ∷ 89 ∷ []
 
 -- the version
 abbrev pub version : ℕ
@@ -33,7 +33,7 @@ layer_bytes layer =
 
 -- the mark, the version, the count in 8 bytes, and the layers
 abbrev pub layers_bytes : List Layer → List ℕ
-layers_bytes layers = mark ++ (version ∷ counted_bytes layer_bytes layers)
+layers_bytes layers = layers_mark ++ (version ∷ counted_bytes layer_bytes layers)
 
 -- these are the layers bytes of the map
 pub record IsLayersBytes (bytes : List ℕ) (layers : List Layer) : Type 0 where
@@ -41,15 +41,15 @@ pub record IsLayersBytes (bytes : List ℕ) (layers : List Layer) : Type 0 where
   pub spelled : bytes ≡ layers_bytes layers
 
 -- the mark, and behind it a byte that is not the version
-abbrev pub IsOtherVersion : List ℕ → Type 0
-IsOtherVersion bytes =
-    (byte : ℕ) × (rest : List ℕ) × (bytes ≡ mark ++ (byte ∷ rest)) × (byte ≢ version)
+abbrev pub IsOtherLayersVersion : List ℕ → Type 0
+IsOtherLayersVersion bytes =
+    (byte : ℕ) × (rest : List ℕ) × (bytes ≡ layers_mark ++ (byte ∷ rest)) × (byte ≢ version)
 
 -- Why bytes are no layers: they are of another version, or else no map has them.
 abbrev pub IsLayersFault : List ℕ → LayersRefusal → Type 0
 IsLayersFault bytes why =
-    ((why ≡ Store (refusal_at faults.Version 0)) × IsOtherVersion bytes)
-    ⊎ ((why ≡ NotLayers) × (¬ IsOtherVersion bytes)
+    ((why ≡ Store (refusal_at faults.Version 0)) × IsOtherLayersVersion bytes)
+    ⊎ ((why ≡ NotLayers) × (¬ IsOtherLayersVersion bytes)
     × ((layers : List Layer) → ¬ IsLayersBytes bytes layers))
 
 -- why bytes are refused: memory may run out
@@ -66,4 +66,4 @@ HaveOneMap =
 abbrev pub AreOfTheirPuts : Type 0
 AreOfTheirPuts =
     (bytes : List ℕ) (layers : List Layer) → length bytes < 2 ^ 64 → IsLayersBytes bytes layers
-    → IsMapOf (map put_of layers) layers
+    → IsMapOfPuts (map put_of layers) layers

@@ -15,17 +15,17 @@ pub kind_again : (kind : LayerKind) → kind_at (kind_byte kind) ≡ kind
 kind_again kinds.Layer = refl
 kind_again kinds.Policy = refl
 
-abbrev pub Stored : Type 0
-Stored = (ℕ × List ℕ) × (ℕ × Table)
+abbrev pub LayerCode : Type 0
+LayerCode = (ℕ × List ℕ) × (ℕ × Table)
 
-abbrev pub stored : Layer → Stored
-stored layer = ((kind_byte layer.kind, layer.name), (layer.revision, layer.content))
+abbrev pub code_of_layer : Layer → LayerCode
+code_of_layer layer = ((kind_byte layer.kind, layer.name), (layer.revision, layer.content))
 
-abbrev pub layer_of : Stored → Layer
+abbrev pub layer_of : LayerCode → Layer
 layer_of s =
     record { kind = kind_at s.0.0; name = s.0.1; revision = s.1.0; content = s.1.1 }
 
-pub layer_again : (layer : Layer) → layer_of (stored layer) ≡ layer
+pub layer_again : (layer : Layer) → layer_of (code_of_layer layer) ≡ layer
 layer_again layer = λ i. record {
   kind = kind_again layer.kind i;
   name = layer.name;
@@ -37,4 +37,4 @@ layer_again layer = λ i. record {
 abbrev pub layers_code : Coded Table → Coded (List Layer)
 layers_code table =
     coded_list
-    (code_by Stored (coded× (coded× coded_ℕ (coded_list coded_ℕ)) (coded× coded_ℕ table)) stored layer_of layer_again)
+    (code_by LayerCode (coded× (coded× coded_ℕ (coded_list coded_ℕ)) (coded× coded_ℕ table)) code_of_layer layer_of layer_again)

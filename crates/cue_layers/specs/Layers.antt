@@ -9,7 +9,7 @@ use Rattle.cue_policies.specs.declared.kind.LayerKind.TheVariants as kinds
 use Rattle.cue_policies.specs.WellFormed.{IsWellFormed}
 use Rattle.cue_replica.specs.Language.{language}
 use Rattle.cue_layers.specs.declared.layer.Layer.{Layer}
-use Rattle.cue_layers.specs.Names.{IsName}
+use Rattle.cue_layers.specs.Names.{IsLayerName}
 
 -- the byte of a kind
 abbrev pub kind_byte : LayerKind → ℕ
@@ -27,14 +27,14 @@ abbrev pub key_of : Layer → Key
 key_of layer = key layer.kind layer.name
 
 -- keys in the order of their bytes, a beginning before what it begins
-abbrev pub IsBefore : Key → Key → Type 0
-IsBefore a b = slice_cmp nat_cmp a b ≡ Less
+abbrev pub IsKeyBefore : Key → Key → Type 0
+IsKeyBefore a b = slice_cmp nat_cmp a b ≡ Less
 
 -- each layer comes before those behind it, so that no two have one key
 abbrev pub IsInOrder : List Layer → Type 0
 IsInOrder [] = Unit {0}
 IsInOrder (layer ∷ layers) =
-    AllByRecursion (λ other. IsBefore (key_of layer) (key_of other)) layers × IsInOrder layers
+    AllByRecursion (λ other. IsKeyBefore (key_of layer) (key_of other)) layers × IsInOrder layers
 
 -- the commons: the layer proper with the empty name, whose revision is 0
 pub record IsCommons (layer : Layer) : Type 0 where
@@ -47,14 +47,14 @@ BeginsWithCommons [] = ⊥
 BeginsWithCommons (layer ∷ layers) = IsCommons layer
 
 -- a layer with a name and a revision of its own
-pub record IsNamed (layer : Layer) : Type 0 where
-  pub name : IsName layer.name
+pub record IsNamedLayer (layer : Layer) : Type 0 where
+  pub name : IsLayerName layer.name
   pub from : 0 < layer.revision
   pub to : layer.revision < 2 ^ 64
 
 -- a layer of a map: its table is valid, and well formed where it is a policy
 pub record IsLayer (layer : Layer) : Type 0 where
-  pub is : IsCommons layer ⊎ IsNamed layer
+  pub is : IsCommons layer ⊎ IsNamedLayer layer
   pub valid : language.IsValid layer.content
   pub well_formed : layer.kind ≡ kinds.Policy
       → IsWellFormed (language.table_refuses layer.content)

@@ -23,7 +23,7 @@ put_of layer =
     }
 
 -- The map of a set of puts. The commons is there also where nobody put anything into it.
-pub record IsMapOf (puts : List Put) (layers : List Layer) : Type 0 where
+pub record IsMapOfPuts (puts : List Put) (layers : List Layer) : Type 0 where
   pub is_map : IsMap layers
   pub current : AreCurrent of_puts (commons_put [] ∷ puts) layers
 

@@ -9,8 +9,8 @@ name_limit = 255
 abbrev pub slash : ℕ
 slash = 47
 
-abbrev pub dot : ℕ
-dot = 46
+abbrev pub name_dot : ℕ
+name_dot = 46
 
 abbrev pub dash : ℕ
 dash = 45
@@ -24,7 +24,7 @@ IsWordByte b =
 -- the name begins.
 abbrev pub MayFollow : ℕ → ℕ → Type 0
 MayFollow before b =
-    IsWordByte b ⊎ ((before ≢ slash) × ((b ≡ dot) ⊎ ((b ≡ dash) ⊎ (b ≡ slash))))
+    IsWordByte b ⊎ ((before ≢ slash) × ((b ≡ name_dot) ⊎ ((b ≡ dash) ⊎ (b ≡ slash))))
 
 -- behind this byte these bytes end a name
 abbrev pub EndsName : ℕ → List ℕ → Type 0
@@ -33,17 +33,17 @@ EndsName before (b ∷ bytes) = MayFollow before b × EndsName b bytes
 
 -- Parts between slashes, none of which is empty or begins with '.' or '-'. The first one begins as
 -- if behind a slash.
-abbrev pub IsName : List ℕ → Type 0
-IsName name = (length name ≤ name_limit) × EndsName slash name
+abbrev pub IsLayerName : List ℕ → Type 0
+IsLayerName name = (length name ≤ name_limit) × EndsName slash name
 
 -- some name begins with these bytes
 abbrev pub BeginsName : List ℕ → Type 0
-BeginsName bytes = (more : List ℕ) × IsName (bytes ++ more)
+BeginsName bytes = (more : List ℕ) × IsLayerName (bytes ++ more)
 
 -- The bytes are no name, and the longest beginning of theirs with which some name begins has this
 -- length.
 pub record IsBadAt (bytes : List ℕ) (place : ℕ) : Type 0 where
-  pub no_name : ¬ IsName bytes
+  pub no_name : ¬ IsLayerName bytes
   pub within : place ≤ length bytes
   pub begins : BeginsName (take place bytes)
   pub longest : (longer : ℕ) → place < longer → longer ≤ length bytes

@@ -39,39 +39,39 @@ of_layers = record {
 }
 
 -- the element is in the list
-abbrev pub Has : {X : Type 0} → List X → X → Type 0
-Has xs x = OneOf (λ member. member ≡ x) xs
+abbrev pub HasElement : {X : Type 0} → List X → X → Type 0
+HasElement xs x = OneOf (λ member. member ≡ x) xs
 
 -- one set, in whatever order and however often its members came
 abbrev pub SameMembers : {X : Type 0} → List X → List X → Type 0
-SameMembers {X} xs ys = (x : X) → Has xs x ↔ Has ys x
+SameMembers {X} xs ys = (x : X) → HasElement xs x ↔ HasElement ys x
 
 -- the member speaks of the key of the layer, at its revision
-pub record IsAt {X : Type 0} (claims : Claims X) (layer : Layer) (x : X) : Type 0 where
+pub record IsOfKey {X : Type 0} (claims : Claims X) (layer : Layer) (x : X) : Type 0 where
   pub key : claims.key x ≡ key_of layer
   pub revision : claims.revision x ≡ layer.revision
 
 -- The layer is that of its key: its revision is the greatest of the key, and it refuses what one
 -- member at that revision refuses.
 pub record IsCurrent {X : Type 0} (claims : Claims X) (xs : List X) (layer : Layer) : Type 0 where
-  pub revision : OneOf (IsAt claims layer) xs
-  pub greatest : (x : X) → Has xs x → claims.key x ≡ key_of layer
+  pub revision : OneOf (IsOfKey claims layer) xs
+  pub greatest : (x : X) → HasElement xs x → claims.key x ≡ key_of layer
       → claims.revision x ≤ layer.revision
   pub refuses : (path : Path) (question : Question)
       → language.table_refuses layer.content path question
-      ↔ OneOf (λ x. IsAt claims layer x × claims.refuses x path question) xs
+      ↔ OneOf (λ x. IsOfKey claims layer x × claims.refuses x path question) xs
 
 -- The layers are those of all keys of a list: each is the current one of its key, and no key of the
 -- list is without a layer.
 pub record AreCurrent {X : Type 0} (claims : Claims X) (xs : List X) (layers : List Layer)
     : Type 0 where
   pub each : AllByRecursion (IsCurrent claims xs) layers
-  pub all : (x : X) → Has xs x → OneOf (λ layer. key_of layer ≡ claims.key x) layers
+  pub all : (x : X) → HasElement xs x → OneOf (λ layer. key_of layer ≡ claims.key x) layers
 
 -- The next revision of a key: above each that the list has, and one more than one of them, or 1.
-pub record IsNext {X : Type 0} (claims : Claims X) (xs : List X) (key : Key) (revision : ℕ)
+pub record IsNextRevision {X : Type 0} (claims : Claims X) (xs : List X) (key : Key) (revision : ℕ)
     : Type 0 where
-  pub above : (x : X) → Has xs x → claims.key x ≡ key → claims.revision x < revision
+  pub above : (x : X) → HasElement xs x → claims.key x ≡ key → claims.revision x < revision
   pub next : (revision ≡ 1)
       ⊎ OneOf (λ x. (claims.key x ≡ key) × (revision ≡ claims.revision x + 1)) xs
 

@@ -17,22 +17,22 @@ use Rattle.cue_layers.specs.declared.piece.Piece.TheVariants as pieces
 use Rattle.cue_layers.specs.declared.refusal.LayersRefusal.{LayersRefusal}
 use Rattle.cue_layers.specs.declared.refusal.LayersRefusal.TheVariants as reasons
 use Rattle.cue_layers.specs.Layers.{key}
-use Rattle.cue_layers.specs.Names.{IsName, IsBadAt}
+use Rattle.cue_layers.specs.Names.{IsLayerName, IsBadAt}
 use Rattle.cue_layers.specs.Puts.{of_layers, IsUsedUp}
 
 -- the numbers go on where those of single texts and states end
-abbrev pub number_of : LayersRefusal → ℕ
-number_of (reasons.Store why) = kind_number why.kind
-number_of (reasons.InPiece index why) = kind_number why.kind
-number_of reasons.NotLayers = 26
-number_of (reasons.BadName place) = 27
-number_of reasons.NotWellFormed = 28
-number_of reasons.RevisionsUsed = 29
-number_of reasons.ViewTooLarge = 30
+abbrev pub number_of_reason : LayersRefusal → ℕ
+number_of_reason (reasons.Store why) = kind_number why.kind
+number_of_reason (reasons.InPiece index why) = kind_number why.kind
+number_of_reason reasons.NotLayers = 26
+number_of_reason (reasons.BadName place) = 27
+number_of_reason reasons.NotWellFormed = 28
+number_of_reason reasons.RevisionsUsed = 29
+number_of_reason reasons.ViewTooLarge = 30
 
 -- the names, in the order of the numbers
-abbrev pub names : List (List ℕ)
-names =
+abbrev pub reason_names : List (List ℕ)
+reason_names =
     kind_names
     ++ codes "NotLayers" ∷
     codes "BadName" ∷
@@ -42,16 +42,16 @@ names =
     []
 
 -- the name of the reason with this number, where one has it
-abbrev pub name_at : ℕ → Option (List ℕ)
-name_at zero = None
-name_at (suc n) = slice_get names n
+abbrev pub reason_name_at : ℕ → Option (List ℕ)
+reason_name_at zero = None
+reason_name_at (suc n) = slice_get reason_names n
 
 -- a byte of the text, or of the name; 0 where there is none
-abbrev pub place_of : LayersRefusal → ℕ
-place_of (reasons.Store why) = why.place
-place_of (reasons.InPiece index why) = why.place
-place_of (reasons.BadName place) = place
-place_of reason = 0
+abbrev pub place_of_refusal : LayersRefusal → ℕ
+place_of_refusal (reasons.Store why) = why.place
+place_of_refusal (reasons.InPiece index why) = why.place
+place_of_refusal (reasons.BadName place) = place
+place_of_refusal reason = 0
 
 -- the piece, counted from 0
 abbrev pub index_of : LayersRefusal → Option ℕ
@@ -68,9 +68,9 @@ refusal_of (errors.Memory cause) = out_of_memory
 refusal_of errors.TooLarge = reasons.ViewTooLarge
 
 -- a piece, as worlds have it
-abbrev pub piece_of : OwnedPiece → Piece
-piece_of (pieces.Text t) = text t
-piece_of (pieces.State bytes) = state bytes.items
+abbrev pub piece_of_refusal : OwnedPiece → Piece
+piece_of_refusal (pieces.Text t) = text t
+piece_of_refusal (pieces.State bytes) = state bytes.items
 
 -- why a piece is refused
 abbrev pub IsPieceFault : Piece → Refusal → Type 0
@@ -98,15 +98,15 @@ MayBe kinds.Policy pieces = IsWellFormed (pieces_refuse language pieces)
 abbrev pub IsPutFault : List Layer → LayerKind → List ℕ → List Piece → LayersRefusal → Type 0
 IsPutFault layers kind name pieces (reasons.BadName place) = IsBadAt name place
 IsPutFault layers kind name pieces (reasons.InPiece index why) =
-    IsName name × IsFirstFault pieces index why
+    IsLayerName name × IsFirstFault pieces index why
 IsPutFault layers kind name pieces reasons.NotWellFormed =
-    IsName name × AllByRecursion IsAcceptable pieces × ¬ MayBe kind pieces
+    IsLayerName name × AllByRecursion IsAcceptable pieces × ¬ MayBe kind pieces
 IsPutFault layers kind name pieces reasons.RevisionsUsed =
-    IsName name × AllByRecursion IsAcceptable pieces × MayBe kind pieces
+    IsLayerName name × AllByRecursion IsAcceptable pieces × MayBe kind pieces
     × IsUsedUp of_layers layers (key kind name)
 IsPutFault layers kind name pieces reason = ⊥
 
 -- Memory may run out, but not before the name was looked at.
 abbrev pub IsPutRefusal : List Layer → LayerKind → List ℕ → List Piece → LayersRefusal → Type 0
 IsPutRefusal layers kind name pieces why =
-    IsPutFault layers kind name pieces why ⊎ ((why ≡ out_of_memory) × IsName name)
+    IsPutFault layers kind name pieces why ⊎ ((why ≡ out_of_memory) × IsLayerName name)

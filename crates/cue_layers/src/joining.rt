@@ -58,7 +58,7 @@ fn last_order(own: &[Layer], others: &[Layer]) -> Ordering
 }
 
 /// The layer with the greater revision, and the second one where both have the same.
-fn greater(layer: Layer, other: Layer) -> Layer
+fn later_revision(layer: Layer, other: Layer) -> Layer
     ensures { ((result ≡ layer) × (other.revision < layer.revision))
         ⊎ ((result ≡ other) × (layer.revision ≤ other.revision)) }
 {
@@ -81,7 +81,7 @@ fn take_last(own: &mut Vec<Layer>, others: &mut Vec<Layer>) -> Option<Layer>
     match last_order(own.as_slice(), others.as_slice()) {
         Ordering::Less => others.pop(),
         Ordering::Greater => own.pop(),
-        Ordering::Equal => Some(greater(own.pop()?, others.pop()?)),
+        Ordering::Equal => Some(later_revision(own.pop()?, others.pop()?)),
     }
 }
 

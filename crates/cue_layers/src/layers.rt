@@ -2,17 +2,17 @@ ghost use Rattle.std.specs.Prelude.{◌≡◌, ◌↔◌, ◌⊎◌, [], map, Is
 ghost use Rattle.std.specs.List.{AllByRecursion};
 ghost use Rattle.cue_lattice.specs.Refusal.{memory};
 ghost use Rattle.cue_replica.specs.Language.{language};
-ghost use Rattle.cue_layers.specs.Join.{IsPut, CommonsGrows};
+ghost use Rattle.cue_layers.specs.Join.{IsOnePut, CommonsGrows};
 ghost use Rattle.cue_layers.specs.Layers.{IsMap, key, key_of};
-ghost use Rattle.cue_layers.specs.Maps.{IsMapOf, IsJoin};
-ghost use Rattle.cue_layers.specs.Puts.{Has};
-ghost use Rattle.cue_layers.specs.Refusals.{piece_of, IsPutRefusal};
+ghost use Rattle.cue_layers.specs.Maps.{IsMapOfPuts, IsJoin};
+ghost use Rattle.cue_layers.specs.Puts.{HasElement};
+ghost use Rattle.cue_layers.specs.Refusals.{piece_of_refusal, IsPutRefusal};
 
 use crate::finding::find;
 use crate::joining::{merge, with_ties};
 use crate::layer::Layer;
 use crate::names::bad_place;
-use crate::piece::{Piece, unified};
+use crate::piece::{Piece, unify_pieces};
 use crate::putting;
 use crate::refusal::LayersRefusal;
 use cue_lattice::{Memory, Refusal, Text};
@@ -52,7 +52,7 @@ impl Model for Layers {
 impl Layers {
     /// The map of a new site: the commons, which says nothing.
     pub fn new(alloc: Global) -> Result<Layers, Memory>
-        ensures { IfOk result (IsMapOf []) }
+        ensures { IfOk result (IsMapOfPuts []) }
     {
         let mut entries = Vec::new(alloc);
         entries.push(Layer {
@@ -86,15 +86,15 @@ impl Layers {
         pieces: &[Piece],
     ) -> Result<u64, LayersRefusal>
         ensures ok { IfOk result
-            (IsPut self.old kind name.now (map piece_of pieces.now) self.new) }
+            (IsOnePut self.old kind name.now (map piece_of_refusal pieces.now) self.new) }
         ensures refused { IfErr result
-            (IsPutRefusal self.old kind name.now (map piece_of pieces.now)) }
+            (IsPutRefusal self.old kind name.now (map piece_of_refusal pieces.now)) }
         ensures err { OnErr result (self.new ≡ self.old) }
     {
         if let Some(place) = bad_place(name.as_bytes()) {
             return Err(LayersRefusal::BadName(place as u64));
         }
-        let content = unified(self.alloc, pieces)?;
+        let content = unify_pieces(self.alloc, pieces)?;
         if !putting::may_put(kind, &content) {
             return Err(LayersRefusal::NotWellFormed);
         }
@@ -103,7 +103,7 @@ impl Layers {
 
     /// Removes what the owner of a name says: a put without pieces.
     pub fn remove(&mut self, kind: LayerKind, name: &str) -> Result<u64, LayersRefusal>
-        ensures ok { IfOk result (IsPut self.old kind name.now [] self.new) }
+        ensures ok { IfOk result (IsOnePut self.old kind name.now [] self.new) }
         ensures refused { IfErr result (IsPutRefusal self.old kind name.now []) }
         ensures err { OnErr result (self.new ≡ self.old) }
     {
@@ -147,7 +147,7 @@ impl Layers {
         let Layers { entries, alloc: _ } = other;
         let others = with_ties(self.alloc, self.entries.as_slice(), entries)?;
         let Some(count) = self.entries.len().checked_add(others.len()) else {
-            return Err(Memory::beyond(self.entries.len() as u64, others.len() as u64));
+            return Err(Memory::too_many(self.entries.len() as u64, others.len() as u64));
         };
         let mut merged = Vec::with_capacity(self.alloc, count)?;
         let own = mem::replace(&mut self.entries, Vec::new(self.alloc));
@@ -167,7 +167,7 @@ impl Layers {
     /// The layer of a key.
     pub fn get(&self, kind: LayerKind, name: &str) -> Option<&Layer>
         ensures some { IfSome result (λ layer.
-            Has self.now layer.now × (key_of layer.now ≡ key kind name.now)) }
+            HasElement self.now layer.now × (key_of layer.now ≡ key kind name.now)) }
         ensures none { IfNone result
             (AllByRecursion (λ layer. ¬ (key_of layer ≡ key kind name.now)) self.now) }
     {

@@ -1,6 +1,6 @@
 //! The names of layers.
 ghost use Rattle.std.specs.Prelude.{◌↔◌, IsTrue, IfSome, IfNone};
-ghost use Rattle.cue_layers.specs.Names.{IsWordByte, MayFollow, IsName, IsBadAt};
+ghost use Rattle.cue_layers.specs.Names.{IsWordByte, MayFollow, IsLayerName, IsBadAt};
 ghost use Rattle.cue_layers.specs.Inner.Naming.{MayStand};
 
 /// The most bytes of a name.
@@ -30,7 +30,7 @@ fn may_stand(index: usize, before: u8, byte: u8) -> bool
 /// Where a name of layers is bad: the length of its longest beginning with which some name begins.
 /// Nothing is returned for a name.
 pub fn bad_place(name: &[u8]) -> Option<usize>
-    ensures name { IfNone result (IsName name.now) }
+    ensures name { IfNone result (IsLayerName name.now) }
     ensures place { IfSome result (IsBadAt name.now) }
 {
     let mut before = b'/';

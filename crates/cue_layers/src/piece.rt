@@ -4,8 +4,8 @@ ghost use Rattle.cue_lattice.specs.Refusal.{memory};
 ghost use Rattle.cue_lattice.specs.World.{IsUnified, pieces_refuse};
 ghost use Rattle.cue_replica.specs.Accepted.{IsAcceptable};
 ghost use Rattle.cue_replica.specs.Language.{language};
-ghost use Rattle.cue_replica.specs.Replica.{Adds};
-ghost use Rattle.cue_layers.specs.Refusals.{piece_of, out_of_memory, IsPieceFault, IsPiecesRefusal};
+ghost use Rattle.cue_replica.specs.Replica.{AddsRefusals};
+ghost use Rattle.cue_layers.specs.Refusals.{piece_of_refusal, out_of_memory, IsPieceFault, IsPiecesRefusal};
 
 use crate::refusal::LayersRefusal;
 use cue_lattice::{Kind, Refusal, Text};
@@ -23,12 +23,12 @@ pub enum Piece {
 
 /// Hands a piece to a site.
 fn accept(replica: &mut Replica, piece: &Piece) -> Result<(), Refusal>
-    ensures acceptable { OnOk result (IsAcceptable (piece_of piece.now)) }
+    ensures acceptable { OnOk result (IsAcceptable (piece_of_refusal piece.now)) }
     ensures ok { OnOk result
-        (Adds replica.old (pieces_refuse language (piece_of piece.now ∷ [])) replica.new) }
+        (AddsRefusals replica.old (pieces_refuse language (piece_of_refusal piece.now ∷ [])) replica.new) }
     ensures valid { language.IsValid replica.new }
     ensures refused { IfErr result (λ why.
-        IsPieceFault (piece_of piece.now) why ⊎ (why ≡ memory)) }
+        IsPieceFault (piece_of_refusal piece.now) why ⊎ (why ≡ memory)) }
 {
     match piece {
         Piece::Text(text) => replica.submit(text.as_str()),
@@ -37,23 +37,23 @@ fn accept(replica: &mut Replica, piece: &Piece) -> Result<(), Refusal>
 }
 
 /// A site that has accepted just these pieces.
-pub fn unified(alloc: Global, pieces: &[Piece]) -> Result<Replica, LayersRefusal>
-    ensures acceptable { OnOk result (AllByRecursion IsAcceptable (map piece_of pieces.now)) }
+pub fn unify_pieces(alloc: Global, pieces: &[Piece]) -> Result<Replica, LayersRefusal>
+    ensures acceptable { OnOk result (AllByRecursion IsAcceptable (map piece_of_refusal pieces.now)) }
     ensures unified { IfOk result (λ content.
-        IsUnified language content (map piece_of pieces.now)) }
-    ensures refused { IfErr result (IsPiecesRefusal (map piece_of pieces.now)) }
+        IsUnified language content (map piece_of_refusal pieces.now)) }
+    ensures refused { IfErr result (IsPiecesRefusal (map piece_of_refusal pieces.now)) }
 {
     let mut content = Replica::new(alloc);
     for (i, piece) in pieces.iter().enumerate() {
         if let Err(why) = accept(&mut content, piece) {
-            return Err(refused_at(i, why));
+            return Err(piece_refusal(i, why));
         }
     }
     Ok(content)
 }
 
 /// The refusal of a piece; out of memory is of none.
-fn refused_at(index: usize, why: Refusal) -> LayersRefusal
+fn piece_refusal(index: usize, why: Refusal) -> LayersRefusal
     ensures memory { why ≡ memory → result ≡ out_of_memory }
     ensures other { why ≢ memory → result ≡ LayersRefusal.InPiece index why }
 {

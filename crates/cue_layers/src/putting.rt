@@ -5,7 +5,7 @@ ghost use Rattle.cue_policies.specs.WellFormed.{IsWellFormed};
 ghost use Rattle.cue_replica.specs.Language.{language};
 ghost use Rattle.cue_layers.specs.Join.{CommonsGrows};
 ghost use Rattle.cue_layers.specs.Layers.{key, IsMap};
-ghost use Rattle.cue_layers.specs.Names.{IsName};
+ghost use Rattle.cue_layers.specs.Names.{IsLayerName};
 ghost use Rattle.cue_layers.specs.Puts.{of_layers, IsUsedUp, last_revision};
 ghost use Rattle.cue_layers.specs.Refusals.{out_of_memory};
 ghost use Rattle.cue_layers.specs.Inner.Putting.{MayPut, Replaces};
@@ -38,7 +38,7 @@ pub fn replace(
     content: Replica,
 ) -> Result<u64, LayersRefusal>
     requires is_map { IsMap entries.old.items }
-    requires is_name { IsName name.now }
+    requires is_name { IsLayerName name.now }
     requires may_put { MayPut kind content }
     ensures ok { IfOk result
         (Replaces entries.old.items kind name.now content entries.new.items) }

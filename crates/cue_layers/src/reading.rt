@@ -4,12 +4,12 @@ ghost use Rattle.std.specs.Option.{option_map};
 ghost use Rattle.std.specs.Int.{w16, w64};
 ghost use Rattle.std.specs.List.{flat_map};
 ghost use Rattle.cue_codec.specs.Parts.{text_bytes, counted_bytes};
-ghost use Rattle.cue_codec.specs.Reading.{number_at, Begins, BeginsNone, IsShort};
+ghost use Rattle.cue_codec.specs.Reading.{number_at, ReadsItem, ReadsNoItem, IsShort};
 ghost use Rattle.cue_codec.specs.Inner.Reading.{AreSo};
 ghost use Rattle.cue_lattice.specs.Refusal.{memory};
 ghost use Rattle.cue_replica.specs.Language.{language};
 ghost use Rattle.cue_layers.specs.Refusals.{out_of_memory};
-ghost use Rattle.cue_layers.specs.Bytes.{mark, version, layer_bytes, block_bytes, IsLayersBytes, IsLayersFault, IsLayersRefusal};
+ghost use Rattle.cue_layers.specs.Bytes.{layers_mark, version, layer_bytes, block_bytes, IsLayersBytes, IsLayersFault, IsLayersRefusal};
 ghost use Rattle.cue_layers.specs.Layers.{IsLayer, IsMap};
 ghost use Rattle.cue_layers.specs.declared.layer.Layer.{Layer as LayerValue};
 ghost use Rattle.cue_replica.specs.Language.{Table as Tables};
@@ -67,8 +67,8 @@ fn u64_at(bytes: &[u8]) -> Option<(u64, &[u8])>
 
 /// A number of 8 bytes.
 fn wide_at(bytes: &[u8]) -> Option<(u64, &[u8])>
-    ensures some { IfSome result (λ x. Begins IsWide wide_bytes x.0 bytes.now x.1.now) }
-    ensures none { IfNone result (BeginsNone IsWide wide_bytes bytes.now) }
+    ensures some { IfSome result (λ x. ReadsItem IsWide wide_bytes x.0 bytes.now x.1.now) }
+    ensures none { IfNone result (ReadsNoItem IsWide wide_bytes bytes.now) }
 {
     let (number, rest) = u64_at(bytes)?;
     Some((number, rest))
@@ -87,8 +87,8 @@ fn front_at(len: usize, bytes: &[u8]) -> Option<(&[u8], &[u8])>
 
 /// Bytes behind their length, which has 2 bytes.
 fn short_at(bytes: &[u8]) -> Option<(&[u8], &[u8])>
-    ensures some { IfSome result (λ x. Begins IsShort text_bytes x.0.now bytes.now x.1.now) }
-    ensures none { IfNone result (BeginsNone IsShort text_bytes bytes.now) }
+    ensures some { IfSome result (λ x. ReadsItem IsShort text_bytes x.0.now bytes.now x.1.now) }
+    ensures none { IfNone result (ReadsNoItem IsShort text_bytes bytes.now) }
 {
     let (len, rest) = u16_at(bytes)?;
     let (front, rest) = front_at(len as usize, rest)?;
@@ -97,8 +97,8 @@ fn short_at(bytes: &[u8]) -> Option<(&[u8], &[u8])>
 
 /// Bytes behind their length, which has 8 bytes.
 fn block_at(bytes: &[u8]) -> Option<(&[u8], &[u8])>
-    ensures some { IfSome result (λ x. Begins IsLong block_bytes x.0.now bytes.now x.1.now) }
-    ensures none { IfNone result (BeginsNone IsLong block_bytes bytes.now) }
+    ensures some { IfSome result (λ x. ReadsItem IsLong block_bytes x.0.now bytes.now x.1.now) }
+    ensures none { IfNone result (ReadsNoItem IsLong block_bytes bytes.now) }
 {
     let (len, rest) = u64_at(bytes)?;
     let (front, rest) = front_at(len as usize, rest)?;
@@ -107,8 +107,8 @@ fn block_at(bytes: &[u8]) -> Option<(&[u8], &[u8])>
 
 /// A kind.
 fn kind_at(bytes: &[u8]) -> Option<(LayerKind, &[u8])>
-    ensures some { IfSome result (λ x. Begins IsKind kind_bytes x.0 bytes.now x.1.now) }
-    ensures none { IfNone result (BeginsNone IsKind kind_bytes bytes.now) }
+    ensures some { IfSome result (λ x. ReadsItem IsKind kind_bytes x.0 bytes.now x.1.now) }
+    ensures none { IfNone result (ReadsNoItem IsKind kind_bytes bytes.now) }
 {
     let (byte, rest) = bytes.split_first()?;
     match *byte {
@@ -120,9 +120,9 @@ fn kind_at(bytes: &[u8]) -> Option<(LayerKind, &[u8])>
 
 /// A kind and a name.
 fn key_at(bytes: &[u8]) -> Option<((LayerKind, &[u8]), &[u8])>
-    ensures some { IfSome result (λ x. Begins (AreBoth IsKind IsShort)
+    ensures some { IfSome result (λ x. ReadsItem (AreBoth IsKind IsShort)
         (both_bytes kind_bytes text_bytes) (x.0.0, x.0.1.now) bytes.now x.1.now) }
-    ensures none { IfNone result (BeginsNone (AreBoth IsKind IsShort)
+    ensures none { IfNone result (ReadsNoItem (AreBoth IsKind IsShort)
         (both_bytes kind_bytes text_bytes) bytes.now) }
 {
     let (kind, rest) = kind_at(bytes)?;
@@ -132,9 +132,9 @@ fn key_at(bytes: &[u8]) -> Option<((LayerKind, &[u8]), &[u8])>
 
 /// A revision and state bytes.
 fn says_at(bytes: &[u8]) -> Option<((u64, &[u8]), &[u8])>
-    ensures some { IfSome result (λ x. Begins (AreBoth IsWide IsLong)
+    ensures some { IfSome result (λ x. ReadsItem (AreBoth IsWide IsLong)
         (both_bytes wide_bytes block_bytes) (x.0.0, x.0.1.now) bytes.now x.1.now) }
-    ensures none { IfNone result (BeginsNone (AreBoth IsWide IsLong)
+    ensures none { IfNone result (ReadsNoItem (AreBoth IsWide IsLong)
         (both_bytes wide_bytes block_bytes) bytes.now) }
 {
     let (revision, rest) = wide_at(bytes)?;
@@ -153,9 +153,9 @@ struct Parts<'a> {
 
 /// The parts of a layer in front of bytes, and what is behind them.
 fn parts_at(bytes: &[u8]) -> Option<(Parts<'_>, &[u8])>
-    ensures some { IfSome result (λ x. Begins AreParts parts_bytes
+    ensures some { IfSome result (λ x. ReadsItem AreParts parts_bytes
         ((x.0.kind, x.0.name.now), (x.0.revision, x.0.state.now)) bytes.now x.1.now) }
-    ensures none { IfNone result (BeginsNone AreParts parts_bytes bytes.now) }
+    ensures none { IfNone result (ReadsNoItem AreParts parts_bytes bytes.now) }
 {
     let ((kind, name), rest) = key_at(bytes)?;
     let ((revision, state), rest) = says_at(rest)?;
@@ -191,12 +191,12 @@ fn content_of(alloc: Global, state: &[u8]) -> Result<Replica, LayersRefusal>
     let mut content = Replica::new(alloc);
     match content.take(state) {
         Ok(()) => Ok(content),
-        Err(why) => Err(refused(why)),
+        Err(why) => Err(layer_refusal(why)),
     }
 }
 
 /// Why a layer with a state that is refused is none.
-fn refused(why: Refusal) -> LayersRefusal
+fn layer_refusal(why: Refusal) -> LayersRefusal
     ensures memory { why ≡ memory → result ≡ out_of_memory }
     ensures other { why ≢ memory → result ≡ LayersRefusal.NotLayers }
 {
@@ -262,9 +262,9 @@ fn layer_of(alloc: Global, parts: Parts<'_>) -> Result<Layer, LayersRefusal>
 
 /// The layer in front of bytes, and what is behind it.
 fn layer_at(alloc: Global, bytes: &[u8]) -> Result<(Layer, &[u8]), LayersRefusal>
-    ensures ok { IfOk result (λ x. Begins IsHeld layer_bytes x.0 bytes.now x.1.now) }
+    ensures ok { IfOk result (λ x. ReadsItem IsHeld layer_bytes x.0 bytes.now x.1.now) }
     ensures refused { IfErr result (λ why. IsRefusedFor why
-        (BeginsNone IsHeld layer_bytes bytes.now)) }
+        (ReadsNoItem IsHeld layer_bytes bytes.now)) }
 {
     let Some((parts, rest)) = parts_at(bytes) else {
         return Err(LayersRefusal::NotLayers);
@@ -286,10 +286,10 @@ fn is_behind(layers: &[Layer], layer: &Layer) -> bool
 /// So many layers in order.
 fn each_layer(alloc: Global, count: u64, bytes: &[u8]) -> Result<(Vec<Layer>, &[u8]), LayersRefusal>
     ensures ok { IfOk result (λ x. AreFront x.0.items) }
-    ensures parts { IfOk result (λ x. Begins (AreSo IsHeld count) (flat_map layer_bytes)
+    ensures parts { IfOk result (λ x. ReadsItem (AreSo IsHeld count) (flat_map layer_bytes)
         x.0.items bytes.now x.1.now) }
     ensures refused { IfErr result (λ why. IsRefusedFor why
-        (BeginsNone (AreSoManyOfMap count) (flat_map layer_bytes) bytes.now)) }
+        (ReadsNoItem (AreSoManyOfMap count) (flat_map layer_bytes) bytes.now)) }
 {
     let mut layers = Vec::new(alloc);
     let mut rest = bytes;
@@ -325,7 +325,7 @@ fn layers_of(alloc: Global, bytes: &[u8]) -> Result<Vec<Layer>, LayersRefusal>
 
 /// What is behind the mark and the version of layers bytes.
 fn head_at(bytes: &[u8]) -> Result<&[u8], LayersRefusal>
-    ensures ok { IfOk result (λ rest. bytes.now ≡ mark ++ (version ∷ rest.now)) }
+    ensures ok { IfOk result (λ rest. bytes.now ≡ layers_mark ++ (version ∷ rest.now)) }
     ensures refused { IfErr result (IsLayersFault bytes.now) }
 {
     let Some(rest) = bytes.strip_prefix(&MARK) else {

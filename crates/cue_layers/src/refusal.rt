@@ -1,5 +1,5 @@
 ghost use Rattle.std.specs.Prelude.{◌≡◌};
-ghost use Rattle.cue_layers.specs.Refusals.{name_at, number_of, place_of, index_of};
+ghost use Rattle.cue_layers.specs.Refusals.{reason_name_at, number_of_reason, place_of_refusal, index_of};
 
 use cue_lattice::{Memory, Refusal};
 use cue_policies::ViewError;
@@ -27,7 +27,7 @@ pub enum LayersRefusal {
 impl LayersRefusal {
     /// The number of the reason.
     pub fn number(&self) -> u8
-        ensures { result ≡ number_of self.now }
+        ensures { result ≡ number_of_reason self.now }
     {
         match self {
             LayersRefusal::Store(why) => why.kind.number(),
@@ -42,7 +42,7 @@ impl LayersRefusal {
 
     /// The name of the reason.
     pub fn name(&self) -> &'static str
-        ensures { name_at (number_of self.now) ≡ Some result.now }
+        ensures { reason_name_at (number_of_reason self.now) ≡ Some result.now }
     {
         match self {
             LayersRefusal::Store(why) => why.kind.name(),
@@ -57,7 +57,7 @@ impl LayersRefusal {
 
     /// The byte of the text or of the name. It is 0 where the refusal is of neither.
     pub fn place(&self) -> u64
-        ensures { result ≡ place_of self.now }
+        ensures { result ≡ place_of_refusal self.now }
     {
         match self {
             LayersRefusal::Store(why) => why.place,

@@ -7,7 +7,7 @@ ghost use Rattle.cue_policies.specs.WellFormed.{IsWellFormed};
 ghost use Rattle.cue_policies.specs.declared.kind.LayerKind.TheVariants as kinds;
 ghost use Rattle.cue_replica.specs.Language.{language};
 ghost use Rattle.cue_layers.specs.Layers.{IsLayer};
-ghost use Rattle.cue_layers.specs.View.{parts_of, IsViewOf, IsTooLarge, IsViewRefusal};
+ghost use Rattle.cue_layers.specs.View.{parts_of_layers, IsViewOf, IsTooLarge, IsViewRefusal};
 ghost use Rattle.cue_layers.specs.Inner.Viewing.{AddsLayer};
 
 use crate::layer::Layer;
@@ -50,7 +50,7 @@ fn add_layer(
 fn unified_of(alloc: Global, layers: &[Layer], kind: LayerKind) -> Result<Replica, Memory>
     requires { AllByRecursion IsLayer layers.now }
     ensures valid { IfOk result language.IsValid }
-    ensures unified { IfOk result (IsUnifiedOf kind (parts_of layers.now)) }
+    ensures unified { IfOk result (IsUnifiedOf kind (parts_of_layers layers.now)) }
     ensures formed { IfOk result (λ site. kind ≡ kinds.Policy
         → IsWellFormed (language.table_refuses site)) }
 {

@@ -4,7 +4,7 @@ ghost use Rattle.std.specs.Int.{w64, to_be_bytes};
 ghost use Rattle.std.specs.List.{flat_map, AllByRecursion};
 ghost use Rattle.cue_codec.specs.Parts.{text_bytes};
 ghost use Rattle.cue_codec.specs.Reading.{IsShort};
-ghost use Rattle.cue_layers.specs.Bytes.{mark, version, block_bytes, layer_bytes, layers_bytes};
+ghost use Rattle.cue_layers.specs.Bytes.{layers_mark, version, block_bytes, layer_bytes, layers_bytes};
 ghost use Rattle.cue_layers.specs.Layers.{IsMap, kind_byte};
 ghost use Rattle.cue_layers.specs.Inner.Reading.{HasShortName};
 
@@ -87,7 +87,7 @@ fn put_each(alloc: Global, out: &mut Vec<u8>, layers: &[Layer]) -> Result<(), Me
 /// Puts the mark, the version and the count behind other bytes.
 fn put_head(out: &mut Vec<u8>, count: u64) -> Result<(), Memory>
     ensures { OnOk result (out.new.items ≡ out.old.items
-        ++ (mark ++ (version ∷ to_be_bytes w64 count))) }
+        ++ (layers_mark ++ (version ∷ to_be_bytes w64 count))) }
 {
     out.extend_from_slice(&MARK)?;
     out.push(VERSION)?;

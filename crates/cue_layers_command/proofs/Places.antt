@@ -6,9 +6,9 @@ use Rattle.cue_lattice.specs.Bools.{is_nil}
 use Rattle.cue_replica.specs.declared.Conflict.{Conflict}
 use Rattle.cue_replica.specs.declared.Gap.{Gap}
 use Rattle.cue_replica.specs.Language.{Table}
-use Rattle.cue_replica.specs.Reports.{TellsConflictsOf, TellsGapsOf, gap_line}
+use Rattle.cue_replica.specs.Reports.{WritesConflictsOf, WritesGapsOf, gap_line}
 use Rattle.cue_answer.specs.Answers.{code_of, report_lines, report_status}
-use Rattle.cue_answer.specs.declared.question.Question.TheVariants as questions
+use Rattle.cue_answer.specs.declared.question.SiteQuestion.TheVariants as questions
 use Rattle.cue_layers_command.specs.Places.{IsShownAt}
 use Rattle.cue_layers_command.specs.inner.Lines.{lines_code}
 
@@ -19,7 +19,7 @@ code_is [] [] = refl
 
 -- the lines of a report, in a text of their own
 pub report_shown :
-    (table : Table) (mid new : List ℕ) (some more : Bool) (code : ℕ) → TellsConflictsOf table some (Some []) (Some mid) → TellsGapsOf table more (Some mid) (Some new)
+    (table : Table) (mid new : List ℕ) (some more : Bool) (code : ℕ) → WritesConflictsOf table some (Some []) (Some mid) → WritesGapsOf table more (Some mid) (Some new)
     → code ≡ lines_code some more → IsShownAt questions.Report table new code
 report_shown table mid new some more code told lacks is = (
   report_status told.0 lacks.0,

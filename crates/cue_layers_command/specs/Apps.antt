@@ -61,20 +61,20 @@ top = record (new_shape (codes "cuelayers")) {
 }
 
 -- the program's commands that change a map, or try to
-abbrev pub changing : App
-changing = with_subcommand (with_subcommand (with_subcommand (with_subcommand
+abbrev pub app_with_changes : App
+app_with_changes = with_subcommand (with_subcommand (with_subcommand (with_subcommand
     (record { top = top; subs = [] })
     (of_put (codes "put")).top) (of_name (codes "remove") (codes "MAP")).top)
     (of_put (codes "try")).top) (of_first (codes "merge") (codes "OUT")).top
 
 -- and those that ask about a view
-abbrev pub asking : App
-asking = with_subcommand (with_subcommand (with_subcommand changing
+abbrev pub app_with_questions : App
+app_with_questions = with_subcommand (with_subcommand (with_subcommand app_with_changes
     (of_question (codes "export")).top) (of_question (codes "report")).top)
     (of_question (codes "print")).top
 
 -- the program
 abbrev pub layers : App
-layers = with_subcommand (with_subcommand (with_subcommand asking
+layers = with_subcommand (with_subcommand (with_subcommand app_with_questions
     (of_files (codes "list")).top) (of_name (codes "show") (codes "FILE")).top)
     (of_first (codes "why") (codes "PATH")).top

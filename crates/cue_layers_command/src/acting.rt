@@ -1,19 +1,19 @@
 //! Whole runs: what is printed for the arguments, and how a run ends.
 ghost use Rattle.std.specs.Prelude.{◌≡◌, ◌⊎◌, ◌++◌, List, ℕ, [], codes, map, string_bytes};
-ghost use Rattle.cue_layers_command.specs.Faults.{IsComplaint, IsMeaning, IsMemory, IsRefused};
-ghost use Rattle.cue_layers_command.specs.Faults.{IsTold};
-ghost use Rattle.cue_layers_command.specs.Runs.{around, IsRun, IsTextTold, revision_line};
-ghost use Rattle.cue_layers_command.specs.Words.{asked_by};
-ghost use Rattle.cue_layers_command.specs.inner.Replies.{IsEnd, IsReplyTold};
-ghost use Rattle.cue_program.specs.Outlets.{IsUntouched, passed};
+ghost use Rattle.cue_layers_command.specs.Faults.{IsLayersComplaint, IsMeaning, IsMemoryLayersFault, IsLayersRefused};
+ghost use Rattle.cue_layers_command.specs.Faults.{EndsByLayersFault};
+ghost use Rattle.cue_layers_command.specs.Runs.{layers_run_world, IsLayersRun, EndsByText, revision_line};
+ghost use Rattle.cue_layers_command.specs.Words.{asked_by_arguments};
+ghost use Rattle.cue_layers_command.specs.inner.Replies.{IsEnd, EndsByLayersReply};
+ghost use Rattle.cue_program.specs.Outlets.{IsOutputUntouched, passage_of};
 
-use crate::command::{Command, command_of, given_words};
+use crate::command::{LayersCommand, command_of, given_words};
 use crate::explaining::explanation;
-use crate::fault::{Fault, LINE, RunRefusal, text_of};
-use crate::reply::Reply;
+use crate::fault::{LINE, LayersCommandError, LayersRunRefusal, text_of};
+use crate::reply::LayersReply;
 use crate::replying::reply_for;
 use arrayvec::ArrayString;
-use cue_program::{Outlet, Shelf, tell};
+use cue_program::{FileSystem, Output, write_out};
 use itoa::Buffer;
 use std::alloc::Global;
 use std::env::Env;
@@ -35,14 +35,14 @@ pub fn act<H, R: Read, W: Write, F: Write>(
     rt: &mut H,
     words: &[String],
     input: &mut R,
-    out: &mut Outlet<W>,
-    faults: &mut Outlet<F>,
+    out: &mut Output<W>,
+    faults: &mut Output<F>,
 ) -> u8
 where
-    H: AllocGlobal + Shelf,
-    ensures { IsRun (map string_bytes words.now)
-        (around H.held H.makes rt.old rt.new (R.remaining input.old))
-        (passed W.contents out.old out.new) (passed F.contents faults.old faults.new) result }
+    H: AllocGlobal + FileSystem,
+    ensures { IsLayersRun (map string_bytes words.now)
+        (layers_run_world H.held H.makes rt.old rt.new (R.remaining input.old))
+        (passage_of W.contents out.old out.new) (passage_of F.contents faults.old faults.new) result }
 {
     match command_of(rt.alloc(), words) {
         Ok(command) => perform(rt, &command, input, out, faults),
@@ -55,17 +55,17 @@ where
 pub fn run<H, R: Read, W: Write, F: Write>(
     rt: &mut H,
     input: &mut R,
-    out: &mut Outlet<W>,
-    faults: &mut Outlet<F>,
+    out: &mut Output<W>,
+    faults: &mut Output<F>,
 ) -> u8
 where
-    H: AllocGlobal + Env + Shelf,
-    ensures { ((words : List (List ℕ)) × IsRun words
-        (around H.held H.makes rt.old rt.new (R.remaining input.old))
-        (passed W.contents out.old out.new) (passed F.contents faults.old faults.new) result)
-        ⊎ ((fault : Fault) × ((fault ≡ Fault.Usage) ⊎ IsMemory fault)
-        × IsTold fault result
-        (passed W.contents out.old out.new) (passed F.contents faults.old faults.new)
+    H: AllocGlobal + Env + FileSystem,
+    ensures { ((words : List (List ℕ)) × IsLayersRun words
+        (layers_run_world H.held H.makes rt.old rt.new (R.remaining input.old))
+        (passage_of W.contents out.old out.new) (passage_of F.contents faults.old faults.new) result)
+        ⊎ ((fault : Fault) × ((fault ≡ Fault.Usage) ⊎ IsMemoryLayersFault fault)
+        × EndsByLayersFault fault result
+        (passage_of W.contents out.old out.new) (passage_of F.contents faults.old faults.new)
         × (rt.new ≡ rt.old)) }
 {
     match given_words(&*rt) {
@@ -77,16 +77,16 @@ where
 /// Does what a command asks for, and answers the exit status.
 fn perform<H, R: Read, W: Write, F: Write>(
     rt: &mut H,
-    command: &Command,
+    command: &LayersCommand,
     input: &mut R,
-    out: &mut Outlet<W>,
-    faults: &mut Outlet<F>,
+    out: &mut Output<W>,
+    faults: &mut Output<F>,
 ) -> u8
 where
-    H: AllocGlobal + Shelf,
-    ensures { IsEnd (asked_by command.now)
-        (around H.held H.makes rt.old rt.new (R.remaining input.old))
-        (passed W.contents out.old out.new) (passed F.contents faults.old faults.new) result }
+    H: AllocGlobal + FileSystem,
+    ensures { IsEnd (asked_by_arguments command.now)
+        (layers_run_world H.held H.makes rt.old rt.new (R.remaining input.old))
+        (passage_of W.contents out.old out.new) (passage_of F.contents faults.old faults.new) result }
 {
     match reply_for(rt, command, input) {
         Ok(reply) => show(rt.alloc(), &reply, out, faults),
@@ -97,19 +97,19 @@ where
 /// Writes what is printed, and answers the exit status.
 fn show<W: Write, F: Write>(
     alloc: Global,
-    reply: &Reply,
-    out: &mut Outlet<W>,
-    faults: &mut Outlet<F>,
+    reply: &LayersReply,
+    out: &mut Output<W>,
+    faults: &mut Output<F>,
 ) -> u8
-    ensures { IsReplyTold reply.now (passed W.contents out.old out.new)
-        (passed F.contents faults.old faults.new) result }
+    ensures { EndsByLayersReply reply.now (passage_of W.contents out.old out.new)
+        (passage_of F.contents faults.old faults.new) result }
 {
     match reply {
-        Reply::Text(bytes, status) => write_text(bytes, *status, out, faults),
-        Reply::Revision(revision) => write_revision(*revision, out, faults),
-        Reply::Site(question, site) => match tell(alloc, *question, site, out) {
+        LayersReply::Text(bytes, status) => write_text(bytes, *status, out, faults),
+        LayersReply::Revision(revision) => write_revision(*revision, out, faults),
+        LayersReply::Site(question, site) => match write_out(alloc, *question, site, out) {
             Ok(status) => status.code(),
-            Err(stop) => report(&Fault::from(stop), "", out, faults),
+            Err(stop) => report(&LayersCommandError::from(stop), "", out, faults),
         },
     }
 }
@@ -117,11 +117,11 @@ fn show<W: Write, F: Write>(
 /// Writes the line of a revision, and answers the exit status.
 fn write_revision<W: Write, F: Write>(
     revision: u64,
-    out: &mut Outlet<W>,
-    faults: &mut Outlet<F>,
+    out: &mut Output<W>,
+    faults: &mut Output<F>,
 ) -> u8
-    ensures { IsTextTold (revision_line revision) 0 (passed W.contents out.old out.new)
-        (passed F.contents faults.old faults.new) result }
+    ensures { EndsByText (revision_line revision) 0 (passage_of W.contents out.old out.new)
+        (passage_of F.contents faults.old faults.new) result }
 {
     let mut line = ArrayString::<LINE>::new();
     line.push_str(Buffer::new().format(revision));
@@ -133,16 +133,16 @@ fn write_revision<W: Write, F: Write>(
 fn write_text<W: Write, F: Write>(
     bytes: &[u8],
     status: u8,
-    out: &mut Outlet<W>,
-    faults: &mut Outlet<F>,
+    out: &mut Output<W>,
+    faults: &mut Output<F>,
 ) -> u8
-    ensures { IsTextTold bytes.now status (passed W.contents out.old out.new)
-        (passed F.contents faults.old faults.new) result }
+    ensures { EndsByText bytes.now status (passage_of W.contents out.old out.new)
+        (passage_of F.contents faults.old faults.new) result }
 {
-    match out.tell(bytes) {
+    match out.write_out(bytes) {
         Ok(()) => status,
         Err(_) => {
-            complain(&Fault::Device, faults);
+            complain(&LayersCommandError::Device, faults);
             4
         }
     }
@@ -151,13 +151,13 @@ fn write_text<W: Write, F: Write>(
 /// Writes what ended a command, and what is meant, and answers the exit status.
 fn stop<W: Write, F: Write>(
     alloc: Global,
-    command: &Command,
-    fault: &Fault,
-    out: &mut Outlet<W>,
-    faults: &mut Outlet<F>,
+    command: &LayersCommand,
+    fault: &LayersCommandError,
+    out: &mut Output<W>,
+    faults: &mut Output<F>,
 ) -> u8
-    ensures { IsTold fault.now result (passed W.contents out.old out.new)
-        (passed F.contents faults.old faults.new) }
+    ensures { EndsByLayersFault fault.now result (passage_of W.contents out.old out.new)
+        (passage_of F.contents faults.old faults.new) }
 {
     match explanation(alloc, command, fault) {
         Ok(meaning) => report(fault, meaning.as_str(), out, faults),
@@ -168,63 +168,63 @@ fn stop<W: Write, F: Write>(
 /// Writes the line of what ended the run, and beside that of a refusal, what is meant by it where
 /// faults go, unless that is empty. Answers the exit status.
 pub fn report<W: Write, F: Write>(
-    fault: &Fault,
+    fault: &LayersCommandError,
     meaning: &str,
-    out: &mut Outlet<W>,
-    faults: &mut Outlet<F>,
+    out: &mut Output<W>,
+    faults: &mut Output<F>,
 ) -> u8
     ensures { IsMeaning fault.now meaning.now
-        → IsTold fault.now result (passed W.contents out.old out.new)
-        (passed F.contents faults.old faults.new) }
+        → EndsByLayersFault fault.now result (passage_of W.contents out.old out.new)
+        (passage_of F.contents faults.old faults.new) }
 {
     match fault {
-        Fault::Usage | Fault::Device => {
+        LayersCommandError::Usage | LayersCommandError::Device => {
             complain(fault, faults);
             fault.status()
         }
-        Fault::Refused(refusal) => refuse(refusal, meaning, out, faults),
+        LayersCommandError::Refused(refusal) => refuse(refusal, meaning, out, faults),
     }
 }
 
 /// Writes the line of a refusal, and then what is meant.
 fn refuse<W: Write, F: Write>(
-    refusal: &RunRefusal,
+    refusal: &LayersRunRefusal,
     meaning: &str,
-    out: &mut Outlet<W>,
-    faults: &mut Outlet<F>,
+    out: &mut Output<W>,
+    faults: &mut Output<F>,
 ) -> u8
     ensures { IsMeaning (Fault.Refused refusal.now) meaning.now
-        → IsRefused (Fault.Refused refusal.now) result (passed W.contents out.old out.new)
-        (passed F.contents faults.old faults.new) }
+        → IsLayersRefused (Fault.Refused refusal.now) result (passage_of W.contents out.old out.new)
+        (passage_of F.contents faults.old faults.new) }
 {
     let mut line = text_of(refusal);
     line.push_str("\n");
-    match out.tell(line.as_str().as_bytes()) {
+    match out.write_out(line.as_str().as_bytes()) {
         Ok(()) => {
             explain(meaning, faults);
             1
         }
         Err(_) => {
-            complain(&Fault::Device, faults);
+            complain(&LayersCommandError::Device, faults);
             4
         }
     }
 }
 
 /// Writes what is meant where faults go, unless it is empty.
-fn explain<F: Write>(meaning: &str, faults: &mut Outlet<F>)
-    ensures none { meaning.now ≡ [] → IsUntouched (passed F.contents faults.old faults.new) }
+fn explain<F: Write>(meaning: &str, faults: &mut Output<F>)
+    ensures none { meaning.now ≡ [] → IsOutputUntouched (passage_of F.contents faults.old faults.new) }
     ensures some { (front : List ℕ) → meaning.now ≡ front ++ codes "\n"
-        → IsComplaint (passed F.contents faults.old faults.new) }
+        → IsLayersComplaint (passage_of F.contents faults.old faults.new) }
 {
     if !meaning.is_empty() {
-        let _ = faults.tell(meaning.as_bytes());
+        let _ = faults.write_out(meaning.as_bytes());
     }
 }
 
 /// Writes a fault where faults go, in one piece. Where nothing can be written, the status still is.
-fn complain<F: Write>(fault: &Fault, faults: &mut Outlet<F>)
-    ensures { IsComplaint (passed F.contents faults.old faults.new) }
+fn complain<F: Write>(fault: &LayersCommandError, faults: &mut Output<F>)
+    ensures { IsLayersComplaint (passage_of F.contents faults.old faults.new) }
 {
     let mut line = ArrayString::<LINE>::new();
     // No text of a fault fills the line.
@@ -232,5 +232,5 @@ fn complain<F: Write>(fault: &Fault, faults: &mut Outlet<F>)
         line.clear();
     }
     line.push_str("\n");
-    let _ = faults.tell(line.as_str().as_bytes());
+    let _ = faults.write_out(line.as_str().as_bytes());
 }

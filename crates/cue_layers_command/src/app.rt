@@ -1,7 +1,7 @@
 //! The arguments that the program reads, as `clap` is given them.
 ghost use Rattle.std.specs.Prelude.{◌≡◌, IfOk, [], codes, false};
 ghost use Rattle.clap.specs.Walk.{rule_of};
-ghost use Rattle.cue_layers_command.specs.Apps.{IsApp, asking, changing, files_rule, layers};
+ghost use Rattle.cue_layers_command.specs.Apps.{IsApp, app_with_questions, app_with_changes, files_rule, layers};
 ghost use Rattle.cue_layers_command.specs.Apps.{of_files, of_first, of_name, of_put, of_question};
 ghost use Rattle.cue_layers_command.specs.Apps.{option_rule, policy_rule, taken_rule, top};
 
@@ -9,7 +9,7 @@ use clap::{Arg, ArgAction, Command};
 use std::alloc::{AllocError, Global};
 
 /// What help says of a command.
-fn about(name: &str) -> &'static str {
+fn help_of(name: &str) -> &'static str {
     match name {
         "put" => "Replaces what NAME says by the files, and prints the revision",
         "remove" => "Removes what NAME says, and prints the revision",
@@ -51,7 +51,7 @@ fn files<'a>(alloc: Global, required: bool) -> Arg<'a>
 }
 
 /// An argument that must be there.
-fn taken<'a>(alloc: Global, id: &'a str) -> Arg<'a>
+fn required_argument<'a>(alloc: Global, id: &'a str) -> Arg<'a>
     ensures { (rule_of result ≡ taken_rule id.entry.now) × (result.global ≡ false) }
 {
     Arg::new(alloc, id)
@@ -86,17 +86,17 @@ fn of_files<'a>(alloc: Global, name: &'a str) -> Result<Command<'a>, AllocError>
     ensures { IfOk result (IsApp (of_files name.entry.now)) }
 {
     let files = files(alloc, true);
-    Command::new(alloc, name).about(about(name)).arg(files)
+    Command::new(alloc, name).about(help_of(name)).arg(files)
 }
 
 /// A command with an argument and files.
 fn of_first<'a>(alloc: Global, name: &'a str, first: &'a str) -> Result<Command<'a>, AllocError>
     ensures { IfOk result (IsApp (of_first name.entry.now first.entry.now)) }
 {
-    let first = taken(alloc, first);
+    let first = required_argument(alloc, first);
     let files = files(alloc, true);
     Command::new(alloc, name)
-        .about(about(name))
+        .about(help_of(name))
         .arg(first)?
         .arg(files)
 }
@@ -106,10 +106,10 @@ fn of_name<'a>(alloc: Global, name: &'a str, file: &'a str) -> Result<Command<'a
     ensures { IfOk result (IsApp (of_name name.entry.now file.entry.now)) }
 {
     let policy = policy(alloc);
-    let file = taken(alloc, file);
-    let layer = taken(alloc, "NAME");
+    let file = required_argument(alloc, file);
+    let layer = required_argument(alloc, "NAME");
     Command::new(alloc, name)
-        .about(about(name))
+        .about(help_of(name))
         .arg(policy)?
         .arg(file)?
         .arg(layer)
@@ -137,7 +137,7 @@ fn of_question<'a>(alloc: Global, name: &'a str) -> Result<Command<'a>, AllocErr
 
 /// The program, before its commands are added. Its first argument names the command; a request for
 /// help is no command, and no flag.
-fn bare<'a>(alloc: Global) -> Command<'a>
+fn base_app<'a>(alloc: Global) -> Command<'a>
     ensures { IsApp (record { top = top; subs = [] }) result }
 {
     Command::new(alloc, "cuelayers")
@@ -149,14 +149,14 @@ fn bare<'a>(alloc: Global) -> Command<'a>
 }
 
 /// The program with the commands that change a map, or try to.
-fn changing<'a>(alloc: Global) -> Result<Command<'a>, AllocError>
-    ensures { IfOk result (IsApp changing) }
+fn add_change_commands<'a>(alloc: Global) -> Result<Command<'a>, AllocError>
+    ensures { IfOk result (IsApp app_with_changes) }
 {
     let put = of_put(alloc, "put")?;
     let remove = of_name(alloc, "remove", "MAP")?;
     let attempt = of_put(alloc, "try")?;
     let merge = of_first(alloc, "merge", "OUT")?;
-    bare(alloc)
+    base_app(alloc)
         .subcommand(put)?
         .subcommand(remove)?
         .subcommand(attempt)?
@@ -164,13 +164,13 @@ fn changing<'a>(alloc: Global) -> Result<Command<'a>, AllocError>
 }
 
 /// The same with the commands that answer a question about a view.
-fn asking<'a>(alloc: Global) -> Result<Command<'a>, AllocError>
-    ensures { IfOk result (IsApp asking) }
+fn add_question_commands<'a>(alloc: Global) -> Result<Command<'a>, AllocError>
+    ensures { IfOk result (IsApp app_with_questions) }
 {
     let export = of_question(alloc, "export")?;
     let report = of_question(alloc, "report")?;
     let print = of_question(alloc, "print")?;
-    let changing = changing(alloc)?;
+    let changing = add_change_commands(alloc)?;
     changing
         .subcommand(export)?
         .subcommand(report)?
@@ -184,6 +184,6 @@ pub fn layers<'a>(alloc: Global) -> Result<Command<'a>, AllocError>
     let list = of_files(alloc, "list")?;
     let show = of_name(alloc, "show", "FILE")?;
     let why = of_first(alloc, "why", "PATH")?;
-    let asking = asking(alloc)?;
+    let asking = add_question_commands(alloc)?;
     asking.subcommand(list)?.subcommand(show)?.subcommand(why)
 }

@@ -10,25 +10,25 @@ ghost use Rattle.std.specs.declared.io.ErrorKind.TheVariants.{OutOfMemory};
 ghost use Rattle.clap.specs.Matches.{found_of};
 ghost use Rattle.clap.specs.Simple.{subcommand_rows_of};
 ghost use Rattle.clap.specs.Walk.{first_of, rows_of};
-ghost use Rattle.cue_program.specs.Files.{texts};
-ghost use Rattle.cue_layers_command.specs.Faults.{IsMemory};
-ghost use Rattle.cue_layers_command.specs.Words.{ask_in, asked, asked_by, files_in, kind_in};
-ghost use Rattle.cue_layers_command.specs.Words.{limit_in, listing, meaning, merge_in, put_in};
-ghost use Rattle.cue_layers_command.specs.Words.{remove_in, rows_in, show_in, try_in, why_in};
+ghost use Rattle.cue_program.specs.Files.{texts_of_files};
+ghost use Rattle.cue_layers_command.specs.Faults.{IsMemoryLayersFault};
+ghost use Rattle.cue_layers_command.specs.Words.{ask_in, meaning_of_arguments, asked_by_arguments, files_of_rows, kind_in};
+ghost use Rattle.cue_layers_command.specs.Words.{limit_in, listing, meaning_of_argument_rows, merge_of_rows, put_in};
+ghost use Rattle.cue_layers_command.specs.Words.{remove_in, rows_of_arguments, show_in, try_in, why_in};
 
 use crate::app::layers;
-use crate::fault::{Fault, memory};
+use crate::fault::{LayersCommandError, memory};
 use clap::ArgMatches;
 use clap::error::ErrorKind;
 use cue_policies::LayerKind;
-use cue_program::Question;
+use cue_program::SiteQuestion;
 use std::alloc::{AllocError, Global};
 use std::env::{Args, Env};
 use std::{env, io};
 
 /// What the program is asked to do.
 #[derive(Drop)]
-pub enum Command<'w> {
+pub enum LayersCommand<'w> {
     /// Replace what a name says in a map by the unification of the files, and print the revision.
     Put {
         kind: LayerKind,
@@ -58,7 +58,7 @@ pub enum Command<'w> {
     },
     /// Print the answer to a question about the view of files, or about a place of it.
     Ask {
-        question: Question,
+        question: SiteQuestion,
         place: Option<&'w str>,
         files: Vec<&'w str>,
         limit: u64,
@@ -84,12 +84,12 @@ pub enum Command<'w> {
 const ROW_LIMIT: u64 = 10_000_000;
 
 /// The arguments behind the program's name. One that is not UTF-8 is a usage fault.
-pub fn given_words<H: AllocGlobal + Env>(rt: &H) -> Result<Vec<String>, Fault>
-    ensures fault { IfErr result (λ fault. (fault ≡ Fault.Usage) ⊎ IsMemory fault) }
+pub fn given_words<H: AllocGlobal + Env>(rt: &H) -> Result<Vec<String>, LayersCommandError>
+    ensures fault { IfErr result (λ fault. (fault ≡ Fault.Usage) ⊎ IsMemoryLayersFault fault) }
 {
     match env::args(rt) {
         Ok(all) => Ok(after_the_name(rt.alloc(), all)?),
-        Err(error) => Err(unread(&error)),
+        Err(error) => Err(unread_fault(&error)),
     }
 }
 
@@ -101,14 +101,14 @@ fn after_the_name(alloc: Global, all: Args) -> Result<Vec<String>, AllocError>
 }
 
 /// What ends a run whose arguments can't be read.
-pub fn unread(error: &io::Error) -> Fault
-    ensures memory { error_kind error.now ≡ OutOfMemory → IsMemory result }
+pub fn unread_fault(error: &io::Error) -> LayersCommandError
+    ensures memory { error_kind error.now ≡ OutOfMemory → IsMemoryLayersFault result }
     ensures usage { error_kind error.now ≢ OutOfMemory → result ≡ Fault.Usage }
-    ensures fault { (result ≡ Fault.Usage) ⊎ IsMemory result }
+    ensures fault { (result ≡ Fault.Usage) ⊎ IsMemoryLayersFault result }
 {
     match error.kind() {
         io::ErrorKind::OutOfMemory => memory(),
-        _ => Fault::Usage,
+        _ => LayersCommandError::Usage,
     }
 }
 
@@ -117,97 +117,107 @@ pub fn unread(error: &io::Error) -> Fault
 /// # Errors
 ///
 /// `Usage` where they ask for nothing, and want of memory.
-pub fn command_of<'w>(alloc: Global, words: &'w [String]) -> Result<Command<'w>, Fault>
+pub fn command_of<'w>(
+    alloc: Global,
+    words: &'w [String],
+) -> Result<LayersCommand<'w>, LayersCommandError>
     ensures asks { IfOk result (λ command.
-        asked (map string_bytes words.now) ≡ Some (asked_by command)) }
+        meaning_of_arguments (map string_bytes words.now) ≡ Some (asked_by_arguments command)) }
     ensures fault { IfErr result (λ fault.
-        ((fault ≡ Fault.Usage) × (asked (map string_bytes words.now) ≡ None))
-        ⊎ IsMemory fault) }
+        ((fault ≡ Fault.Usage) × (meaning_of_arguments (map string_bytes words.now) ≡ None))
+        ⊎ IsMemoryLayersFault fault) }
 {
     let matches = matches_of(alloc, words)?;
     let command = read(alloc, &matches)?;
-    command.ok_or(Fault::Usage)
+    command.ok_or(LayersCommandError::Usage)
 }
 
 /// What `clap` finds in the arguments.
-fn matches_of<'w>(alloc: Global, words: &'w [String]) -> Result<ArgMatches<'w>, Fault>
-    ensures found { IfOk result (λ matches. asked (map string_bytes words.now)
-        ≡ option_and_then (λ p. meaning p.0 p.1) (subcommand_rows_of matches)) }
+fn matches_of<'w>(alloc: Global, words: &'w [String]) -> Result<ArgMatches<'w>, LayersCommandError>
+    ensures found { IfOk result (λ matches. meaning_of_arguments (map string_bytes words.now)
+        ≡ option_and_then (λ p. meaning_of_argument_rows p.0 p.1) (subcommand_rows_of matches)) }
     ensures fault { IfErr result (λ fault.
-        ((fault ≡ Fault.Usage) × (asked (map string_bytes words.now) ≡ None))
-        ⊎ IsMemory fault) }
+        ((fault ≡ Fault.Usage) × (meaning_of_arguments (map string_bytes words.now) ≡ None))
+        ⊎ IsMemoryLayersFault fault) }
 {
     let layers = layers(alloc)?;
     match layers.try_get_matches_from(words) {
         Ok(matches) => Ok(matches),
-        Err(error) => Err(refused(error.kind())),
+        Err(error) => Err(usage_fault(error.kind())),
     }
 }
 
 /// What ends a run whose arguments `clap` refuses.
-fn refused(kind: ErrorKind) -> Fault
-    ensures memory { kind ≡ ErrorKind.OutOfMemory → IsMemory result }
-    ensures fault { (result ≡ Fault.Usage) ⊎ IsMemory result }
+fn usage_fault(kind: ErrorKind) -> LayersCommandError
+    ensures memory { kind ≡ ErrorKind.OutOfMemory → IsMemoryLayersFault result }
+    ensures fault { (result ≡ Fault.Usage) ⊎ IsMemoryLayersFault result }
     ensures usage { result ≡ Fault.Usage → (kind ≡ ErrorKind.OutOfMemory → ⊥) }
 {
     match kind {
         ErrorKind::OutOfMemory => memory(),
-        _ => Fault::Usage,
+        _ => LayersCommandError::Usage,
     }
 }
 
 /// The command that was found, where its limit is a number.
-fn read<'w>(alloc: Global, matches: &ArgMatches<'w>) -> Result<Option<Command<'w>>, AllocError>
-    ensures { IfOk result (λ command. option_map asked_by command
-        ≡ option_and_then (λ p. meaning p.0 p.1) (subcommand_rows_of matches.now)) }
+fn read<'w>(
+    alloc: Global,
+    matches: &ArgMatches<'w>,
+) -> Result<Option<LayersCommand<'w>>, AllocError>
+    ensures { IfOk result (λ command. option_map asked_by_arguments command
+        ≡ option_and_then (λ p. meaning_of_argument_rows p.0 p.1) (subcommand_rows_of matches.now)) }
 {
     match matches.subcommand() {
-        Some((name, found)) => named(alloc, name, found),
+        Some((name, found)) => find_command(alloc, name, found),
         None => Ok(None),
     }
 }
 
 /// The command of this name, with what was found of its arguments.
-fn named<'w>(
+fn find_command<'w>(
     alloc: Global,
     name: &str,
     found: &ArgMatches<'w>,
-) -> Result<Option<Command<'w>>, AllocError>
+) -> Result<Option<LayersCommand<'w>>, AllocError>
     ensures { IfOk result (λ command.
-        option_map asked_by command ≡ meaning name.now (rows_of (found_of found.now))) }
+        option_map asked_by_arguments command ≡ meaning_of_argument_rows name.now (rows_of (found_of found.now))) }
 {
     let files = files(alloc, found)?;
     Ok(with_files(name, found, files))
 }
 
 /// The command of this name, with these files, and what was found of its other arguments.
-fn with_files<'w>(name: &str, found: &ArgMatches<'w>, files: Vec<&'w str>) -> Option<Command<'w>>
-    ensures { texts files.entry.items ≡ files_in (rows_of (found_of found.now))
-        → option_map asked_by result ≡ meaning name.now (rows_of (found_of found.now)) }
+fn with_files<'w>(
+    name: &str,
+    found: &ArgMatches<'w>,
+    files: Vec<&'w str>,
+) -> Option<LayersCommand<'w>>
+    ensures { texts_of_files files.entry.items ≡ files_of_rows (rows_of (found_of found.now))
+        → option_map asked_by_arguments result ≡ meaning_of_argument_rows name.now (rows_of (found_of found.now)) }
 {
     match name {
         "put" => put(found, files),
         "remove" => remove(found),
         "try" => attempt(found, files),
         "merge" => merge(found, files),
-        "export" => ask(Question::Export, found, files),
-        "report" => ask(Question::Report, found, files),
-        "print" => ask(Question::Print, found, files),
-        "list" => Some(Command::List { files }),
+        "export" => ask(SiteQuestion::Export, found, files),
+        "report" => ask(SiteQuestion::Report, found, files),
+        "print" => ask(SiteQuestion::Print, found, files),
+        "list" => Some(LayersCommand::List { files }),
         "show" => show(found),
         "why" => why(found, files),
         _ => None,
     }
 }
 
-fn put<'w>(found: &ArgMatches<'w>, files: Vec<&'w str>) -> Option<Command<'w>>
-    ensures { texts files.entry.items ≡ files_in (rows_of (found_of found.now))
-        → option_map asked_by result ≡ put_in (rows_of (found_of found.now)) }
+fn put<'w>(found: &ArgMatches<'w>, files: Vec<&'w str>) -> Option<LayersCommand<'w>>
+    ensures { texts_of_files files.entry.items ≡ files_of_rows (rows_of (found_of found.now))
+        → option_map asked_by_arguments result ≡ put_in (rows_of (found_of found.now)) }
 {
     let map = text(found, "MAP")?;
     let name = text(found, "NAME")?;
     let limit = limit(found)?;
-    Some(Command::Put {
+    Some(LayersCommand::Put {
         kind: kind(found),
         map,
         name,
@@ -216,14 +226,14 @@ fn put<'w>(found: &ArgMatches<'w>, files: Vec<&'w str>) -> Option<Command<'w>>
     })
 }
 
-fn attempt<'w>(found: &ArgMatches<'w>, files: Vec<&'w str>) -> Option<Command<'w>>
-    ensures { texts files.entry.items ≡ files_in (rows_of (found_of found.now))
-        → option_map asked_by result ≡ try_in (rows_of (found_of found.now)) }
+fn attempt<'w>(found: &ArgMatches<'w>, files: Vec<&'w str>) -> Option<LayersCommand<'w>>
+    ensures { texts_of_files files.entry.items ≡ files_of_rows (rows_of (found_of found.now))
+        → option_map asked_by_arguments result ≡ try_in (rows_of (found_of found.now)) }
 {
     let map = text(found, "MAP")?;
     let name = text(found, "NAME")?;
     let limit = limit(found)?;
-    Some(Command::Attempt {
+    Some(LayersCommand::Attempt {
         kind: kind(found),
         map,
         name,
@@ -232,52 +242,56 @@ fn attempt<'w>(found: &ArgMatches<'w>, files: Vec<&'w str>) -> Option<Command<'w
     })
 }
 
-fn remove<'w>(found: &ArgMatches<'w>) -> Option<Command<'w>>
-    ensures { option_map asked_by result ≡ remove_in (rows_of (found_of found.now)) }
+fn remove<'w>(found: &ArgMatches<'w>) -> Option<LayersCommand<'w>>
+    ensures { option_map asked_by_arguments result ≡ remove_in (rows_of (found_of found.now)) }
 {
     let map = text(found, "MAP")?;
     let name = text(found, "NAME")?;
-    Some(Command::Remove {
+    Some(LayersCommand::Remove {
         kind: kind(found),
         map,
         name,
     })
 }
 
-fn show<'w>(found: &ArgMatches<'w>) -> Option<Command<'w>>
-    ensures { option_map asked_by result ≡ show_in (rows_of (found_of found.now)) }
+fn show<'w>(found: &ArgMatches<'w>) -> Option<LayersCommand<'w>>
+    ensures { option_map asked_by_arguments result ≡ show_in (rows_of (found_of found.now)) }
 {
     let file = text(found, "FILE")?;
     let name = text(found, "NAME")?;
-    Some(Command::Show {
+    Some(LayersCommand::Show {
         kind: kind(found),
         file,
         name,
     })
 }
 
-fn merge<'w>(found: &ArgMatches<'w>, files: Vec<&'w str>) -> Option<Command<'w>>
-    ensures { texts files.entry.items ≡ files_in (rows_of (found_of found.now))
-        → option_map asked_by result ≡ merge_in (rows_of (found_of found.now)) }
+fn merge<'w>(found: &ArgMatches<'w>, files: Vec<&'w str>) -> Option<LayersCommand<'w>>
+    ensures { texts_of_files files.entry.items ≡ files_of_rows (rows_of (found_of found.now))
+        → option_map asked_by_arguments result ≡ merge_of_rows (rows_of (found_of found.now)) }
 {
     let out = text(found, "OUT")?;
-    Some(Command::Merge { out, files })
+    Some(LayersCommand::Merge { out, files })
 }
 
-fn why<'w>(found: &ArgMatches<'w>, files: Vec<&'w str>) -> Option<Command<'w>>
-    ensures { texts files.entry.items ≡ files_in (rows_of (found_of found.now))
-        → option_map asked_by result ≡ why_in (rows_of (found_of found.now)) }
+fn why<'w>(found: &ArgMatches<'w>, files: Vec<&'w str>) -> Option<LayersCommand<'w>>
+    ensures { texts_of_files files.entry.items ≡ files_of_rows (rows_of (found_of found.now))
+        → option_map asked_by_arguments result ≡ why_in (rows_of (found_of found.now)) }
 {
     let path = text(found, "PATH")?;
-    Some(Command::Why { path, files })
+    Some(LayersCommand::Why { path, files })
 }
 
-fn ask<'w>(question: Question, found: &ArgMatches<'w>, files: Vec<&'w str>) -> Option<Command<'w>>
-    ensures { texts files.entry.items ≡ files_in (rows_of (found_of found.now))
-        → option_map asked_by result ≡ ask_in question (rows_of (found_of found.now)) }
+fn ask<'w>(
+    question: SiteQuestion,
+    found: &ArgMatches<'w>,
+    files: Vec<&'w str>,
+) -> Option<LayersCommand<'w>>
+    ensures { texts_of_files files.entry.items ≡ files_of_rows (rows_of (found_of found.now))
+        → option_map asked_by_arguments result ≡ ask_in question (rows_of (found_of found.now)) }
 {
     let limit = limit(found)?;
-    Some(Command::Ask {
+    Some(LayersCommand::Ask {
         question,
         place: text(found, "at"),
         files,
@@ -288,19 +302,19 @@ fn ask<'w>(question: Question, found: &ArgMatches<'w>, files: Vec<&'w str>) -> O
 /// The files that are named.
 fn files<'w>(alloc: Global, found: &ArgMatches<'w>) -> Result<Vec<&'w str>, AllocError>
     ensures { IfOk result (λ files.
-        texts files.items ≡ files_in (rows_of (found_of found.now))) }
+        texts_of_files files.items ≡ files_of_rows (rows_of (found_of found.now))) }
 {
     match found.get_strs("FILE") {
-        Some(files) => listed(alloc, files),
+        Some(files) => copy_words(alloc, files),
         None => Ok(Vec::new(alloc)),
     }
 }
 
 /// The words, in a list of their own.
-fn listed<'w>(alloc: Global, words: &[&'w str]) -> Result<Vec<&'w str>, AllocError>
+fn copy_words<'w>(alloc: Global, words: &[&'w str]) -> Result<Vec<&'w str>, AllocError>
     ensures { IfOk result (λ list. list.items ≡ words.now) }
 {
-    words.iter().copied().collect(alloc)
+    words.iter().copy_body().collect(alloc)
 }
 
 /// The argument of this id.
@@ -333,7 +347,7 @@ fn limit(found: &ArgMatches) -> Option<u64>
 
 /// The number that an argument of ASCII digits says, where it has 64 bits at most.
 pub fn rows_in(word: &str) -> Option<u64>
-    ensures { result ≡ rows_in word.now }
+    ensures { result ≡ rows_of_arguments word.now }
 {
     if word.is_empty() || !is_digits(word) {
         return None;

@@ -3,25 +3,33 @@ ghost use Rattle.std.specs.Prelude.{IfOk, string_bytes};
 ghost use Rattle.cue_layers_command.specs.Faults.{IsMeaning};
 ghost use Rattle.cue_layers_command.specs.inner.Lines.{IsLine};
 
-use crate::command::Command;
-use crate::fault::{Fault, RunRefusal};
+use crate::command::LayersCommand;
+use crate::fault::{LayersCommandError, LayersRunRefusal};
 use cue_layers::LayersRefusal;
 use itoa::Buffer;
 use std::alloc::{AllocError, Global};
 
 /// The line that says what a command asked for that was refused; nothing where an input is refused,
 /// or the run itself.
-pub fn explanation(alloc: Global, command: &Command, fault: &Fault) -> Result<String, AllocError>
+pub fn explanation(
+    alloc: Global,
+    command: &LayersCommand,
+    fault: &LayersCommandError,
+) -> Result<String, AllocError>
     ensures { IfOk result (λ text. IsMeaning fault.now (string_bytes text)) }
 {
     match fault {
-        Fault::Refused(RunRefusal::Request(why)) => line_of(alloc, command, why),
+        LayersCommandError::Refused(LayersRunRefusal::Request(why)) => line_of(alloc, command, why),
         _ => Ok(String::new(alloc)),
     }
 }
 
 /// The line that says what is meant by a refusal of what a command asked for.
-fn line_of(alloc: Global, command: &Command, why: &LayersRefusal) -> Result<String, AllocError>
+fn line_of(
+    alloc: Global,
+    command: &LayersCommand,
+    why: &LayersRefusal,
+) -> Result<String, AllocError>
     ensures { IfOk result (λ text. IsLine (string_bytes text)) }
 {
     match why {
@@ -49,30 +57,32 @@ fn reason(why: &LayersRefusal) -> &'static str {
 }
 
 /// The name that a command is about.
-fn name_of<'a>(command: &'a Command) -> &'a str {
+fn name_of<'a>(command: &'a LayersCommand) -> &'a str {
     match command {
-        Command::Put { name, .. }
-        | Command::Remove { name, .. }
-        | Command::Attempt { name, .. }
-        | Command::Show { name, .. } => name,
+        LayersCommand::Put { name, .. }
+        | LayersCommand::Remove { name, .. }
+        | LayersCommand::Attempt { name, .. }
+        | LayersCommand::Show { name, .. } => name,
         _ => "",
     }
 }
 
 /// The file of the map that a command is about.
-fn map_of<'a>(command: &'a Command) -> &'a str {
+fn map_of<'a>(command: &'a LayersCommand) -> &'a str {
     match command {
-        Command::Put { map, .. } | Command::Remove { map, .. } | Command::Attempt { map, .. } =>
-            map,
+        LayersCommand::Put { map, .. }
+        | LayersCommand::Remove { map, .. }
+        | LayersCommand::Attempt { map, .. } => map,
         _ => "",
     }
 }
 
 /// The most rows of a view, where a command has a limit.
-fn limit_of(command: &Command) -> u64 {
+fn limit_of(command: &LayersCommand) -> u64 {
     match command {
-        Command::Put { limit, .. } | Command::Attempt { limit, .. } | Command::Ask { limit, .. } =>
-            *limit,
+        LayersCommand::Put { limit, .. }
+        | LayersCommand::Attempt { limit, .. }
+        | LayersCommand::Ask { limit, .. } => *limit,
         _ => 0,
     }
 }

@@ -1,8 +1,8 @@
 //! What ends a run that has no answer, and the lines of it.
 ghost use Rattle.std.specs.Prelude.{◌≡◌, ◌++◌, ◌+◌, ◌<◌, ◌≤◌, [], decimal};
 ghost use Rattle.arrayvec.specs.ArrayString.{array_string_len};
-ghost use Rattle.cue_layers_command.specs.Faults.{IsMemory, kind_text, placed_text, reason_text};
-ghost use Rattle.cue_layers_command.specs.Faults.{refusal_text, run_refusal, status_of};
+ghost use Rattle.cue_layers_command.specs.Faults.{IsMemoryLayersFault, layers_kind_text, placed_text, reason_text};
+ghost use Rattle.cue_layers_command.specs.Faults.{layers_refusal_text, run_refusal, layers_status_of};
 ghost use Rattle.cue_layers_command.specs.Faults.{store_refusal};
 ghost use Rattle.cue_layers_command.specs.inner.Lines.{digit_limit, line_limit, placed_limit};
 ghost use Rattle.cue_layers_command.specs.inner.Lines.{reason_limit};
@@ -10,14 +10,14 @@ ghost use Rattle.cue_layers_command.specs.inner.Lines.{reason_limit};
 use arrayvec::ArrayString;
 use cue_layers::LayersRefusal;
 use cue_layers_program::LayersStop;
-use cue_program::{Kind, Memory, Refusal, Stop};
+use cue_program::{Kind, Memory, Refusal, RunError};
 use itoa::Buffer;
 use std::alloc::{AllocError, AllocFailed};
 use thiserror::Error;
 
 /// What ends a run before it has an answer.
 #[derive(Clone, Copy, Debug, PartialEq, Eq, Error)]
-pub enum Fault {
+pub enum LayersCommandError {
     /// The arguments ask for nothing that the program does.
     #[error("usage fault")]
     Usage,
@@ -26,12 +26,12 @@ pub enum Fault {
     Device,
     /// An input, what was asked for, or the run itself, was refused.
     #[error("{}", text_of(.0))]
-    Refused(RunRefusal),
+    Refused(LayersRunRefusal),
 }
 
 /// What was refused in a run, and why.
 #[derive(Clone, Copy, Debug, PartialEq, Eq)]
-pub enum RunRefusal {
+pub enum LayersRunRefusal {
     /// The run itself, and no single input.
     Run(Kind),
     /// What was asked for: the name, the put, the map or the limit.
@@ -40,23 +40,23 @@ pub enum RunRefusal {
     Input(LayersRefusal, usize),
 }
 
-impl Fault {
+impl LayersCommandError {
     /// The exit status of a run that was stopped by it.
     pub fn status(&self) -> u8
-        ensures { result ≡ status_of self.now }
+        ensures { result ≡ layers_status_of self.now }
     {
         match self {
-            Fault::Device => 4,
+            LayersCommandError::Device => 4,
             _ => 1,
         }
     }
 }
 
 /// Memory ran out, of no single input.
-pub fn memory() -> Fault
-    ensures { IsMemory result }
+pub fn memory() -> LayersCommandError
+    ensures { IsMemoryLayersFault result }
 {
-    Fault::Refused(RunRefusal::Run(Kind::Memory))
+    LayersCommandError::Refused(LayersRunRefusal::Run(Kind::Memory))
 }
 
 /// The line of a refusal has fewer bytes.
@@ -64,15 +64,15 @@ pub const LINE: usize = 128;
 
 /// The text of a refusal: the number and the name of its reason, and, but for the run itself, the
 /// place, and for an input also which input it is. It takes no memory.
-pub fn text_of(refusal: &RunRefusal) -> ArrayString<LINE>
-    ensures text { result.bytes ≡ refusal_text refusal.now }
+pub fn text_of(refusal: &LayersRunRefusal) -> ArrayString<LINE>
+    ensures text { result.bytes ≡ layers_refusal_text refusal.now }
     ensures short { array_string_len result < line_limit }
 {
     let mut text = ArrayString::new();
     match refusal {
-        RunRefusal::Run(kind) => push_kind(&mut text, *kind),
-        RunRefusal::Request(why) => push_placed(&mut text, why),
-        RunRefusal::Input(why, input) => {
+        LayersRunRefusal::Run(kind) => push_kind(&mut text, *kind),
+        LayersRunRefusal::Request(why) => push_placed(&mut text, why),
+        LayersRunRefusal::Input(why, input) => {
             push_placed(&mut text, why);
             text.push_str(" in ");
             push_number(&mut text, *input as u64);
@@ -84,7 +84,7 @@ pub fn text_of(refusal: &RunRefusal) -> ArrayString<LINE>
 /// Adds the number and the name of a kind of refusal.
 fn push_kind(text: &mut ArrayString<LINE>, kind: Kind)
     requires { text.old.bytes ≡ [] }
-    ensures text { text.new.bytes ≡ kind_text kind }
+    ensures text { text.new.bytes ≡ layers_kind_text kind }
     ensures short { array_string_len text.new ≤ reason_limit }
 {
     text.push_str("refused ");
@@ -125,33 +125,36 @@ fn push_number(text: &mut ArrayString<LINE>, number: u64)
     text.push_str(Buffer::new().format(number));
 }
 
-impl From<Stop> for Fault {
-    ghost use Rattle.cue_layers_command.specs.Faults.{IsOf};
+impl From<RunError> for LayersCommandError {
+    ghost use Rattle.cue_layers_command.specs.Faults.{IsLayersFaultOf};
 
-    ghost from_gives = { λ stop fault. IsOf stop fault };
+    ghost from_gives = { λ stop fault. IsLayersFaultOf stop fault };
 
-    fn from(stop: Stop) -> Fault {
+    fn from(stop: RunError) -> LayersCommandError {
         match stop {
-            Stop::Device => Fault::Device,
-            Stop::Refused(kind) => Fault::Refused(RunRefusal::Run(kind)),
-            Stop::RefusedInput(why, input) => {
-                Fault::Refused(RunRefusal::Input(LayersRefusal::Store(why), input))
+            RunError::Device => LayersCommandError::Device,
+            RunError::Refused(kind) => LayersCommandError::Refused(LayersRunRefusal::Run(kind)),
+            RunError::RefusedInput(why, input) => {
+                LayersCommandError::Refused(LayersRunRefusal::Input(
+                    LayersRefusal::Store(why),
+                    input,
+                ))
             }
         }
     }
 }
 
-impl From<LayersStop> for Fault {
+impl From<LayersStop> for LayersCommandError {
     ghost use Rattle.cue_layers_command.specs.Faults.{IsOfLayers};
 
     ghost from_gives = { λ stop fault. IsOfLayers stop fault };
 
-    fn from(stop: LayersStop) -> Fault {
+    fn from(stop: LayersStop) -> LayersCommandError {
         match stop {
-            LayersStop::Device => Fault::Device,
-            LayersStop::Refused(why) => Fault::Refused(refused(why)),
+            LayersStop::Device => LayersCommandError::Device,
+            LayersStop::Refused(why) => LayersCommandError::Refused(run_refusal(why)),
             LayersStop::RefusedInput(why, input) => {
-                Fault::Refused(RunRefusal::Input(why, input))
+                LayersCommandError::Refused(LayersRunRefusal::Input(why, input))
             }
         }
     }
@@ -159,51 +162,51 @@ impl From<LayersStop> for Fault {
 
 /// What was refused, of no single input: what was asked for, or, where memory ran out or an input
 /// takes too many reads, the run itself.
-fn refused(why: LayersRefusal) -> RunRefusal
+fn run_refusal(why: LayersRefusal) -> LayersRunRefusal
     ensures { result ≡ run_refusal why }
 {
     match why {
         LayersRefusal::Store(reason) => refused_store(reason),
-        _ => RunRefusal::Request(why),
+        _ => LayersRunRefusal::Request(why),
     }
 }
 
 /// The same for a reason that texts and states have too.
-fn refused_store(why: Refusal) -> RunRefusal
+fn refused_store(why: Refusal) -> LayersRunRefusal
     ensures { result ≡ store_refusal why }
 {
     match why.kind {
-        Kind::Version => RunRefusal::Request(LayersRefusal::Store(why)),
-        kind => RunRefusal::Run(kind),
+        Kind::Version => LayersRunRefusal::Request(LayersRefusal::Store(why)),
+        kind => LayersRunRefusal::Run(kind),
     }
 }
 
-impl From<Memory> for Fault {
-    ghost use Rattle.cue_layers_command.specs.Faults.{IsMemory};
+impl From<Memory> for LayersCommandError {
+    ghost use Rattle.cue_layers_command.specs.Faults.{IsMemoryLayersFault};
 
-    ghost from_gives = { λ _ fault. IsMemory fault };
+    ghost from_gives = { λ _ fault. IsMemoryLayersFault fault };
 
-    fn from(_memory: Memory) -> Fault {
+    fn from(_memory: Memory) -> LayersCommandError {
         memory()
     }
 }
 
-impl From<AllocError> for Fault {
-    ghost use Rattle.cue_layers_command.specs.Faults.{IsMemory};
+impl From<AllocError> for LayersCommandError {
+    ghost use Rattle.cue_layers_command.specs.Faults.{IsMemoryLayersFault};
 
-    ghost from_gives = { λ _ fault. IsMemory fault };
+    ghost from_gives = { λ _ fault. IsMemoryLayersFault fault };
 
-    fn from(_error: AllocError) -> Fault {
+    fn from(_error: AllocError) -> LayersCommandError {
         memory()
     }
 }
 
-impl<T: Drop> From<AllocFailed<T>> for Fault {
-    ghost use Rattle.cue_layers_command.specs.Faults.{IsMemory};
+impl<T: Drop> From<AllocFailed<T>> for LayersCommandError {
+    ghost use Rattle.cue_layers_command.specs.Faults.{IsMemoryLayersFault};
 
-    ghost from_gives = { λ _ fault. IsMemory fault };
+    ghost from_gives = { λ _ fault. IsMemoryLayersFault fault };
 
-    fn from(_error: AllocFailed<T>) -> Fault {
+    fn from(_error: AllocFailed<T>) -> LayersCommandError {
         memory()
     }
 }

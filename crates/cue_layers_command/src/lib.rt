@@ -13,5 +13,5 @@ mod replying;
 
 pub use acting::{act, report, run};
 pub use app::layers;
-pub use command::{Command, command_of, given_words, rows_in, unread};
-pub use fault::{Fault, LINE, RunRefusal, text_of};
+pub use command::{LayersCommand, command_of, given_words, rows_in, unread_fault};
+pub use fault::{LINE, LayersCommandError, LayersRunRefusal, text_of};

@@ -5,11 +5,11 @@ use Rattle.std.specs.List.{AllByRecursion}
 use Rattle.cue_lattice.specs.Question.{Refusals, SameAnswers}
 use Rattle.cue_lattice.specs.World.{Piece, state, pieces_refuse}
 use Rattle.cue_lattice.specs.declared.refusal.Refusal.{Refusal}
-use Rattle.cue_layers.specs.Join.{IsPut}
+use Rattle.cue_layers.specs.Join.{IsOnePut}
 use Rattle.cue_layers.proofs.Lists.{all_at}
 use Rattle.cue_layers.specs.Layers.{key, key_of}
-use Rattle.cue_layers.specs.Names.{IsName}
-use Rattle.cue_layers.specs.Puts.{Has}
+use Rattle.cue_layers.specs.Names.{IsLayerName}
+use Rattle.cue_layers.specs.Puts.{HasElement}
 use Rattle.cue_layers.specs.Refusals.{IsFirstFault, IsPieceFault, IsPutFault, IsPutRefusal, MayBe}
 use Rattle.cue_layers.specs.declared.Layer.{Layer}
 use Rattle.cue_layers.specs.declared.LayersRefusal.{LayersRefusal}
@@ -17,12 +17,12 @@ use Rattle.cue_layers.specs.declared.LayersRefusal.TheVariants as reasons
 use Rattle.cue_policies.specs.WellFormed.{IsWellFormed}
 use Rattle.cue_policies.specs.declared.kind.LayerKind.{LayerKind}
 use Rattle.cue_policies.specs.declared.kind.LayerKind.TheVariants as kinds
-use Rattle.cue_program.specs.Inputs.{Inputs, Holds}
+use Rattle.cue_program.specs.Inputs.{Inputs, IsUnified}
 use Rattle.cue_replica.proofs.Sound.{sound}
 use Rattle.cue_replica.specs.Accepted.{IsAcceptable}
 use Rattle.cue_replica.specs.Language.{Table, language}
-use Rattle.cue_layers_program.specs.Changes.{IsAbsent, IsChange, IsChangeStop}
-use Rattle.cue_layers_program.specs.Stops.{IsRefusal}
+use Rattle.cue_layers_program.specs.Changes.{IsAbsent, IsMapChange, IsChangeStop}
+use Rattle.cue_layers_program.specs.Stops.{IsRefusalLayersStop}
 use Rattle.cue_layers_program.specs.declared.stop.LayersStop.{LayersStop}
 use Rattle.cue_layers_program.specs.declared.stop.LayersStop.TheVariants as ends
 
@@ -62,8 +62,8 @@ may_same kinds.Policy a b same may = well_same (pieces_refuse language a) (piece
 
 -- a put of the state is one of the pieces
 pub changed :
-    (old new : List Layer) (kind : LayerKind) (name : List ℕ) (inputs : Inputs) (table : Table) (bytes : List ℕ) (revision : ℕ) → Holds inputs table → AreOf table bytes
-    → IsPut old kind name (state bytes ∷ []) new revision → IsChange old kind name inputs new revision
+    (old new : List Layer) (kind : LayerKind) (name : List ℕ) (inputs : Inputs) (table : Table) (bytes : List ℕ) (revision : ℕ) → IsUnified inputs table → AreOf table bytes
+    → IsOnePut old kind name (state bytes ∷ []) new revision → IsMapChange old kind name inputs new revision
 changed old new kind name inputs table bytes revision holds of put =
     let pieces = holds.0 in
     let same = same_pieces table bytes pieces of holds.2.1.1 in (
@@ -89,7 +89,7 @@ no_fault table bytes zero why of fault =
 no_fault table bytes (suc index) why of fault = let e = fault.1.1 in absurd cc
 
 put_fault :
-    (old : List Layer) (kind : LayerKind) (name : List ℕ) (inputs : Inputs) (table : Table) (bytes : List ℕ) (why : LayersRefusal) → IsName name → Holds inputs table → AreOf table bytes
+    (old : List Layer) (kind : LayerKind) (name : List ℕ) (inputs : Inputs) (table : Table) (bytes : List ℕ) (why : LayersRefusal) → IsLayerName name → IsUnified inputs table → AreOf table bytes
     → IsPutFault old kind name (state bytes ∷ []) why → IsChangeStop old kind name inputs (ends.Refused why)
 put_fault old kind name inputs table bytes (reasons.Store why) named holds of fault = absurd fault
 put_fault old kind name inputs table bytes (reasons.InPiece index why) named holds of fault = absurd (no_fault table bytes index why of fault.1)
@@ -105,8 +105,8 @@ put_fault old kind name inputs table bytes reasons.ViewTooLarge named holds of f
 
 -- why the put of the state is refused
 pub change_refused :
-    (old : List Layer) (kind : LayerKind) (name : List ℕ) (inputs : Inputs) (table : Table) (bytes : List ℕ) (why : LayersRefusal) (stop : LayersStop) → IsName name → Holds inputs table
-    → AreOf table bytes → IsPutRefusal old kind name (state bytes ∷ []) why → IsRefusal why stop → IsChangeStop old kind name inputs stop
+    (old : List Layer) (kind : LayerKind) (name : List ℕ) (inputs : Inputs) (table : Table) (bytes : List ℕ) (why : LayersRefusal) (stop : LayersStop) → IsLayerName name → IsUnified inputs table
+    → AreOf table bytes → IsPutRefusal old kind name (state bytes ∷ []) why → IsRefusalLayersStop why stop → IsChangeStop old kind name inputs stop
 change_refused old kind name inputs table bytes why stop named holds of (inl fault) is =
     subst (IsChangeStop old kind name inputs) (sym is) (put_fault old kind name inputs table bytes why named holds of fault)
 change_refused old kind name inputs table bytes why stop named holds of (inr memory) is =
@@ -114,7 +114,7 @@ change_refused old kind name inputs table bytes why stop named holds of (inr mem
 
 -- a layer that was found is there
 pub there :
-    (found : Option (Bor Layer)) (layers : List Layer) (kind : LayerKind) (name : List ℕ) → IfSome found (λ layer. Has layers layer.now × (key_of layer.now ≡ key kind name))
+    (found : Option (Bor Layer)) (layers : List Layer) (kind : LayerKind) (name : List ℕ) → IfSome found (λ layer. HasElement layers layer.now × (key_of layer.now ≡ key kind name))
     → (r : Bool) → is_some found ≡ not r → r ≡ false → IsAbsent kind name layers → ⊥
 there None layers kind name h r is e absent = absurd (let wrong : false ≡ true = is ∙ ap not e in cc)
 there (Some l) layers kind name h r is e absent = all_at (λ (layer : Layer). key_of layer ≡ key kind name → ⊥) layers l.now absent h.0 h.1

@@ -8,10 +8,10 @@ use Rattle.cue_codec.proofs.WrittenStates.{parts_of_state}
 use Rattle.cue_codec.specs.Entry.{entries_of}
 use Rattle.cue_codec.specs.RowBytes.{row_bytes}
 use Rattle.cue_codec.specs.Pieces.{IsFilled}
-use Rattle.cue_codec.specs.State.{mark}
-use Rattle.cue_codec.specs.Version.{version_byte, written}
+use Rattle.cue_codec.specs.State.{state_mark}
+use Rattle.cue_codec.specs.Version.{version_byte, written_version}
 use Rattle.cue_replica.specs.Language.{Table, language}
-use Rattle.cue_layers_program.specs.Answers.{HasRows}
+use Rattle.cue_layers_program.specs.Answers.{HasRowCount}
 
 -- the bytes of a number
 byte_at : (n i : ℕ) → get_or (to_be_bytes w64 n) i 0 < 256
@@ -27,21 +27,21 @@ byte_at n (suc (suc (suc (suc (suc (suc (suc (suc i)))))))) = omega arith
 
 -- a state begins so
 abbrev pub head_of : ℕ → List ℕ
-head_of n = mark ++ (version_byte written ∷ to_be_bytes w64 n)
+head_of n = state_mark ++ (version_byte written_version ∷ to_be_bytes w64 n)
 
 -- a number stands there
-pub written_head : (table : Table) → (n : ℕ) × (more : List ℕ) × (language.written table ≡ mark ++ (version_byte written ∷ (to_be_bytes w64 n ++ more)))
+pub written_head : (table : Table) → (n : ℕ) × (more : List ℕ) × (language.written table ≡ state_mark ++ (version_byte written_version ∷ (to_be_bytes w64 n ++ more)))
 written_head table =
-    (length (entries_of written table), flat_map (row_bytes written) (entries_of written table), parts_of_state written (entries_of written table))
+    (length (entries_of written_version table), flat_map (row_bytes written_version) (entries_of written_version table), parts_of_state written_version (entries_of written_version table))
 
-at_least : (n : ℕ) (more : List ℕ) → 13 ≤ length (mark ++ (version_byte written ∷ (to_be_bytes w64 n ++ more)))
+at_least : (n : ℕ) (more : List ℕ) → 13 ≤ length (state_mark ++ (version_byte written_version ∷ (to_be_bytes w64 n ++ more)))
 at_least n more = omega arith
 
 pub head_told : (table : Table) (left room head after : List ℕ) (count : ℕ) → left ≡ language.written table → length room ≡ 13 → IsFilled left room count after head
-    → (n : ℕ) × (more : List ℕ) × (language.written table ≡ mark ++ (version_byte written ∷ (to_be_bytes w64 n ++ more))) × (head ≡ head_of n)
+    → (n : ℕ) × (more : List ℕ) × (language.written table ≡ state_mark ++ (version_byte written_version ∷ (to_be_bytes w64 n ++ more))) × (head ≡ head_of n)
 head_told table left room head after count is long filled =
     let h = written_head table in
-    let e : left ≡ mark ++ (version_byte written ∷ (to_be_bytes w64 h.0 ++ h.1)) = is ∙ h.2 in
+    let e : left ≡ state_mark ++ (version_byte written_version ∷ (to_be_bytes w64 h.0 ++ h.1)) = is ∙ h.2 in
     let all : 13 ≤ length left = subst (λ (bytes : List ℕ). 13 ≤ length bytes) (sym e) (at_least h.0 h.1) in
     let whole : count ≡ 13 = omega (arith, filled.counted, long, all) in
     let none : drop count room ≡ [] = ap (λ (n : ℕ). drop n room) whole ∙ drop_all 13 room (omega (arith, long)) in
@@ -49,10 +49,10 @@ head_told table left room head after count is long filled =
     (h.0, h.1, h.2, filled.written ∙ (ap (λ (bytes : List ℕ). take count left ++ bytes) none ∙ (append-nil (take count left) ∙ front)))
 
 -- and tells the number
-pub rows_told : (table : Table) (n r : ℕ) (more : List ℕ) → language.written table ≡ mark ++ (version_byte written ∷ (to_be_bytes w64 n ++ more)) → r ≡ from_be_bytes w64 (to_be_bytes w64 n)
-    → HasRows table r
+pub rows_told : (table : Table) (n r : ℕ) (more : List ℕ) → language.written table ≡ state_mark ++ (version_byte written_version ∷ (to_be_bytes w64 n ++ more)) → r ≡ from_be_bytes w64 (to_be_bytes w64 n)
+    → HasRowCount table r
 rows_told table n r more is told =
-    (more, is ∙ ap (λ (bytes : List ℕ). mark ++ (version_byte written ∷ (bytes ++ more))) (sym (be_bytes_8 (to_be_bytes w64 n) r refl (byte_at n) told)))
+    (more, is ∙ ap (λ (bytes : List ℕ). state_mark ++ (version_byte written_version ∷ (bytes ++ more))) (sym (be_bytes_8 (to_be_bytes w64 n) r refl (byte_at n) told)))
 
 -- the number that 8 bytes of the head are
 pub counted :

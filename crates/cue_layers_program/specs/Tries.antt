@@ -5,21 +5,21 @@ use Rattle.std.specs.Prelude.{nat_eq, if◌then◌else◌}
 use Rattle.std.specs.Str.{bytes_eq}
 use Rattle.cue_answer.specs.Answers.{IsAnswer}
 use Rattle.cue_answer.specs.declared.Answer.{Answer}
-use Rattle.cue_answer.specs.declared.Question.TheVariants as questions
+use Rattle.cue_answer.specs.declared.SiteQuestion.TheVariants as questions
 use Rattle.cue_answer.specs.declared.Status.{Status}
 use Rattle.cue_answer.specs.declared.Status.TheVariants as statuses
 use Rattle.cue_layers.specs.View.{IsTooLarge, IsViewOf}
 use Rattle.cue_layers.specs.declared.Layer.{Layer}
 use Rattle.cue_layers.specs.declared.LayersRefusal.TheVariants as reasons
-use Rattle.cue_layers.specs.Names.{IsName}
-use Rattle.cue_program.specs.Calls.{Call}
+use Rattle.cue_layers.specs.Names.{IsLayerName}
+use Rattle.cue_program.specs.Calls.{FileCall}
 use Rattle.cue_program.specs.Files.{Holdings}
 use Rattle.cue_program.specs.Inputs.{inputs_of}
 use Rattle.cue_program.specs.Parts.{lines_of}
 use Rattle.cue_replica.specs.Language.{Table}
-use Rattle.cue_layers_program.specs.Changes.{IsBadName, IsChange, IsChangeStop, Order}
+use Rattle.cue_layers_program.specs.Changes.{IsBadName, IsMapChange, IsChangeStop, PutOrder}
 use Rattle.cue_layers_program.specs.MapFiles.{ReadsMap, StopsReadingMap}
-use Rattle.cue_layers_program.specs.Stops.{IsRefusal}
+use Rattle.cue_layers_program.specs.Stops.{IsRefusalLayersStop}
 use Rattle.cue_layers_program.specs.declared.stop.LayersStop.{LayersStop}
 
 -- the report of the view of a map, where it is not too large
@@ -59,23 +59,23 @@ pub record AreNewLines (former report : List ℕ) (answer : Answer) : Type 0 whe
   pub status : answer.status ≡ status_of_lines (new_lines former report)
 
 -- What a put would change in the report: the map was read, and nothing was written.
-abbrev pub IsTried : {S D M : Type 0} → (S → Call D M → S → Type 0) → (S → Option Holdings)
-    → Order → S → S → Answer → Type 0
+abbrev pub IsTried : {S D M : Type 0} → (S → FileCall D M → S → Type 0) → (S → Option Holdings)
+    → PutOrder → S → S → Answer → Type 0
 IsTried Makes held order old new answer =
     (before after : List Layer) × (revision : ℕ) × (former report : List ℕ)
     × ReadsMap Makes held order.map before old new
-    × IsChange before order.kind order.name (inputs_of (held new) order.files order.input) after revision
+    × IsMapChange before order.kind order.name (inputs_of (held new) order.files order.input) after revision
     × IsFormerReport order.limit before former × IsReport order.limit after report
     × AreNewLines former report answer
 
 -- What stopped a try: what stops a put that is not yet made, or the view is too large after it.
-abbrev pub IsTryStop : {S D M : Type 0} → (S → Call D M → S → Type 0) → (S → Option Holdings)
-    → Order → S → S → LayersStop → Type 0
+abbrev pub IsTryStop : {S D M : Type 0} → (S → FileCall D M → S → Type 0) → (S → Option Holdings)
+    → PutOrder → S → S → LayersStop → Type 0
 IsTryStop Makes held order old new stop =
     (IsBadName order.name stop × (new ≡ old))
-    ⊎ (IsName order.name × StopsReadingMap Makes held order.map old new stop)
-    ⊎ (IsName order.name × ((before : List Layer) × ReadsMap Makes held order.map before old new
+    ⊎ (IsLayerName order.name × StopsReadingMap Makes held order.map old new stop)
+    ⊎ (IsLayerName order.name × ((before : List Layer) × ReadsMap Makes held order.map before old new
     × IsChangeStop before order.kind order.name (inputs_of (held new) order.files order.input) stop))
     ⊎ ((before after : List Layer) × (revision : ℕ) × ReadsMap Makes held order.map before old new
-    × IsChange before order.kind order.name (inputs_of (held new) order.files order.input) after revision
-    × IsTooLarge order.limit after × IsRefusal reasons.ViewTooLarge stop)
+    × IsMapChange before order.kind order.name (inputs_of (held new) order.files order.input) after revision
+    × IsTooLarge order.limit after × IsRefusalLayersStop reasons.ViewTooLarge stop)

@@ -1,7 +1,7 @@
 //! Lines of a report that another has not.
 ghost use Rattle.std.specs.Prelude.{◌≡◌, IfOk};
 ghost use Rattle.std.specs.List.{concat, list_any};
-ghost use Rattle.cue_program.specs.Files.{texts};
+ghost use Rattle.cue_program.specs.Files.{texts_of_files};
 ghost use Rattle.cue_program.specs.Parts.{lines_of};
 ghost use Rattle.cue_layers_program.specs.Tries.{is_conflict, status_of_lines};
 ghost use Rattle.cue_layers_program.specs.Inner.Lines.{HasLines};
@@ -19,7 +19,7 @@ const CONFLICT: &[u8] = b"conflict ";
 pub fn new_lines(alloc: Global, former: &[u8], report: &[u8]) -> Result<Answer, Memory>
     ensures { IfOk result (AreNewLines former.now report.now) }
 {
-    let lines = kept_lines(alloc, former, report)?;
+    let lines = added_lines(alloc, former, report)?;
     Ok(Answer {
         status: status_of(&lines),
         bytes: whole(alloc, &lines)?,
@@ -27,9 +27,9 @@ pub fn new_lines(alloc: Global, former: &[u8], report: &[u8]) -> Result<Answer, 
 }
 
 /// The lines of a report that are none of a former one.
-fn kept_lines<'r>(alloc: Global, former: &[u8], report: &'r [u8]) -> Result<Vec<&'r [u8]>, Memory>
+fn added_lines<'r>(alloc: Global, former: &[u8], report: &'r [u8]) -> Result<Vec<&'r [u8]>, Memory>
     ensures { IfOk result (λ kept.
-        texts kept.items ≡ lines_that_are_new former.now report.now) }
+        texts_of_files kept.items ≡ lines_that_are_new former.now report.now) }
 {
     let known = set_of_lines(alloc, former)?;
     let mut kept = Vec::new(alloc);
@@ -54,7 +54,7 @@ fn set_of_lines(alloc: Global, bytes: &[u8]) -> Result<BTreeSet<&[u8], Global>, 
 
 /// The lines of bytes, each with its line break, which the last one may lack.
 fn split_lines(alloc: Global, bytes: &[u8]) -> Result<Vec<&[u8]>, Memory>
-    ensures { IfOk result (λ lines. texts lines.items ≡ lines_of bytes.now) }
+    ensures { IfOk result (λ lines. texts_of_files lines.items ≡ lines_of bytes.now) }
 {
     let mut lines = Vec::new(alloc);
     let mut rest = bytes;
@@ -68,7 +68,7 @@ fn split_lines(alloc: Global, bytes: &[u8]) -> Result<Vec<&[u8]>, Memory>
 
 /// Lines one behind the other.
 fn whole(alloc: Global, lines: &[&[u8]]) -> Result<Vec<u8>, Memory>
-    ensures { IfOk result (λ bytes. bytes.items ≡ concat (texts lines.now)) }
+    ensures { IfOk result (λ bytes. bytes.items ≡ concat (texts_of_files lines.now)) }
 {
     let mut bytes = Vec::new(alloc);
     for line in lines {
@@ -79,7 +79,7 @@ fn whole(alloc: Global, lines: &[&[u8]]) -> Result<Vec<u8>, Memory>
 
 /// The status of lines of a report.
 fn status_of(lines: &[&[u8]]) -> Status
-    ensures { result ≡ status_of_lines (texts lines.now) }
+    ensures { result ≡ status_of_lines (texts_of_files lines.now) }
 {
     if lines.is_empty() {
         return Status::Done;
@@ -92,7 +92,7 @@ fn status_of(lines: &[&[u8]]) -> Status
 
 /// Whether one of the lines is that of a conflict.
 fn has_conflict(lines: &[&[u8]]) -> bool
-    ensures { result ≡ list_any is_conflict (texts lines.now) }
+    ensures { result ≡ list_any is_conflict (texts_of_files lines.now) }
 {
     for line in lines {
         if line.starts_with(CONFLICT) {

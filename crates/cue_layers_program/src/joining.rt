@@ -1,19 +1,19 @@
 //! Files that are joined to one map of layers.
 ghost use Rattle.std.specs.Prelude.{◌≡◌, ◌↔◌, ◌++◌, ℕ, List, IsTrue, IfOk, IfErr, OnOk, map};
 ghost use Rattle.cue_layers.specs.Bytes.{IsLayersBytes, IsLayersRefusal};
-ghost use Rattle.cue_layers.specs.Maps.{IsMapOf, put_of};
+ghost use Rattle.cue_layers.specs.Maps.{IsMapOfPuts, put_of};
 ghost use Rattle.cue_layers.specs.Puts.{Put};
 ghost use Rattle.cue_layers.specs.declared.Layer.{Layer};
-ghost use Rattle.cue_program.specs.Files.{known_at, texts};
+ghost use Rattle.cue_program.specs.Files.{known_at, texts_of_files};
 ghost use Rattle.cue_layers_program.specs.Answers.{IsJoinedView, IsViewStop};
 ghost use Rattle.cue_layers_program.specs.Joined.{ArePutsOf, BeginsLayers, IsFileRefusal};
 ghost use Rattle.cue_layers_program.specs.Joined.{IsJoined, IsJoinStop};
-ghost use Rattle.cue_layers_program.specs.Merges.{IsMerge, IsMergeStop};
+ghost use Rattle.cue_layers_program.specs.Merges.{IsMapMerge, IsMapMergeStop};
 
 use crate::map_file::put_map;
 use crate::stop::LayersStop;
 use cue_layers::{Layers, LayersRefusal};
-use cue_program::{Replica, Shelf, begins_a_state, read_whole, text_of};
+use cue_program::{FileSystem, Replica, begins_a_state, read_whole, text_of};
 use std::alloc::Global;
 
 /// How all layers bytes begin.
@@ -27,11 +27,11 @@ const MARK: [u8; 4] = [0xFE, b'L', b'A', b'Y'];
 ///
 /// `RefusedInput` for the first file that is refused, with its number from 1; `Device`, and
 /// `Refused` where memory ran out or a file takes too many reads.
-pub fn joined<H: AllocGlobal + Shelf>(rt: &H, files: &[&str]) -> Result<Layers, LayersStop>
+pub fn join_files<H: AllocGlobal + FileSystem>(rt: &H, files: &[&str]) -> Result<Layers, LayersStop>
     ensures joined { IfOk result
-        (IsJoined (map (known_at (H.held rt.now)) (texts files.now))) }
+        (IsJoined (map (known_at (H.held rt.now)) (texts_of_files files.now))) }
     ensures stop { IfErr result
-        (IsJoinStop (map (known_at (H.held rt.now)) (texts files.now))) }
+        (IsJoinStop (map (known_at (H.held rt.now)) (texts_of_files files.now))) }
 {
     let mut all = Layers::new(rt.alloc())?;
     let mut number = 0;
@@ -47,8 +47,8 @@ pub fn joined<H: AllocGlobal + Shelf>(rt: &H, files: &[&str]) -> Result<Layers, 
 
 /// Joins what the bytes of a file say to a map.
 fn take_bytes(alloc: Global, all: &mut Layers, bytes: &[u8]) -> Result<(), LayersRefusal>
-    ensures joins { (puts : List Put) → IsMapOf puts all.old → OnOk result ((said : List Put)
-        × ArePutsOf bytes.now said × IsMapOf (puts ++ said) all.new) }
+    ensures joins { (puts : List Put) → IsMapOfPuts puts all.old → OnOk result ((said : List Put)
+        × ArePutsOf bytes.now said × IsMapOfPuts (puts ++ said) all.new) }
     ensures refused { IfErr result (IsFileRefusal bytes.now) }
 {
     if begins_layers(bytes) {
@@ -62,9 +62,9 @@ fn take_bytes(alloc: Global, all: &mut Layers, bytes: &[u8]) -> Result<(), Layer
 
 /// Joins layers bytes to a map.
 fn take_layers(alloc: Global, all: &mut Layers, bytes: &[u8]) -> Result<(), LayersRefusal>
-    ensures joins { (puts : List Put) → IsMapOf puts all.old → OnOk result
+    ensures joins { (puts : List Put) → IsMapOfPuts puts all.old → OnOk result
         ((layers : List Layer) × IsLayersBytes bytes.now layers
-        × IsMapOf (puts ++ map put_of layers) all.new) }
+        × IsMapOfPuts (puts ++ map put_of layers) all.new) }
     ensures refused { IfErr result (IsLayersRefusal bytes.now) }
 {
     let other = Layers::read(alloc, bytes)?;
@@ -83,17 +83,17 @@ fn begins_layers(bytes: &[u8]) -> bool
 /// # Errors
 ///
 /// As `joined`, and then `Refused` where the view has more rows than the limit, or memory ran out.
-pub fn view_of<H: AllocGlobal + Shelf>(
+pub fn view_of<H: AllocGlobal + FileSystem>(
     rt: &H,
     files: &[&str],
     limit: u64,
 ) -> Result<Replica, LayersStop>
     ensures view { IfOk result
-        (IsJoinedView limit (map (known_at (H.held rt.now)) (texts files.now))) }
+        (IsJoinedView limit (map (known_at (H.held rt.now)) (texts_of_files files.now))) }
     ensures stop { IfErr result
-        (IsViewStop limit (map (known_at (H.held rt.now)) (texts files.now))) }
+        (IsViewStop limit (map (known_at (H.held rt.now)) (texts_of_files files.now))) }
 {
-    let all = joined(rt, files)?;
+    let all = join_files(rt, files)?;
     Ok(all.view(rt.alloc(), limit)?)
 }
 
@@ -104,16 +104,16 @@ pub fn view_of<H: AllocGlobal + Shelf>(
 ///
 /// As `joined`, and then nothing was written; or `Device`, and want of memory, behind the last file,
 /// and then what lay under the name was not touched.
-pub fn merge<H: AllocGlobal + Shelf>(
+pub fn merge<H: AllocGlobal + FileSystem>(
     rt: &mut H,
     out: &str,
     files: &[&str],
 ) -> Result<(), LayersStop>
-    ensures merges { OnOk result (IsMerge H.makes out.now
-        (map (known_at (H.held rt.old)) (texts files.now)) rt.old rt.new) }
-    ensures stop { IfErr result (IsMergeStop H.makes out.now
-        (map (known_at (H.held rt.old)) (texts files.now)) rt.old rt.new) }
+    ensures merges { OnOk result (IsMapMerge H.makes out.now
+        (map (known_at (H.held rt.old)) (texts_of_files files.now)) rt.old rt.new) }
+    ensures stop { IfErr result (IsMapMergeStop H.makes out.now
+        (map (known_at (H.held rt.old)) (texts_of_files files.now)) rt.old rt.new) }
 {
-    let all = joined(&*rt, files)?;
+    let all = join_files(&*rt, files)?;
     put_map(rt, out, &all)
 }

@@ -12,8 +12,8 @@ mod stop;
 mod trying;
 
 pub use cue_layers::{Layer, LayerKind, Layers, LayersRefusal};
-pub use cue_program::{Answer, Outlet, Question, Refusal, Replica, Shelf, Status};
-pub use joining::{joined, merge, view_of};
+pub use cue_program::{Answer, FileSystem, Output, Refusal, Replica, SiteQuestion, Status};
+pub use joining::{join_files, merge, view_of};
 pub use listing::{list, show};
 pub use putting::{put, remove};
 pub use stop::LayersStop;

@@ -1,15 +1,15 @@
 //! What a map has, and what a layer of it says.
 ghost use Rattle.std.specs.Prelude.{◌≡◌, ◌++◌, ℕ, List, IfOk, IfErr, OnOk, map, string_bytes};
-ghost use Rattle.cue_program.specs.Files.{known_at, texts};
-ghost use Rattle.cue_layers_program.specs.Answers.{title, word, AreLines, HasRows, IsLine, IsList};
+ghost use Rattle.cue_program.specs.Files.{known_at, texts_of_files};
+ghost use Rattle.cue_layers_program.specs.Answers.{title, kind_word, AreLines, HasRowCount, IsLayerLine, IsLayerList};
 ghost use Rattle.cue_layers_program.specs.Answers.{IsContent, IsShownOf, IsShowStop};
 ghost use Rattle.cue_layers_program.specs.Joined.{IsJoinStop};
 
-use crate::joining::joined;
+use crate::joining::join_files;
 use crate::map_file::check_name;
 use crate::stop::LayersStop;
 use cue_layers::{Layer, LayerKind};
-use cue_program::{Memory, Replica, Shelf};
+use cue_program::{FileSystem, Memory, Replica};
 use itoa::Buffer;
 use std::alloc::Global;
 
@@ -22,13 +22,13 @@ const HEAD: usize = 13;
 /// # Errors
 ///
 /// As `joined`.
-pub fn list<H: AllocGlobal + Shelf>(rt: &H, files: &[&str]) -> Result<String, LayersStop>
+pub fn list<H: AllocGlobal + FileSystem>(rt: &H, files: &[&str]) -> Result<String, LayersStop>
     ensures list { IfOk result (λ text.
-        IsList (map (known_at (H.held rt.now)) (texts files.now)) (string_bytes text)) }
+        IsLayerList (map (known_at (H.held rt.now)) (texts_of_files files.now)) (string_bytes text)) }
     ensures stop { IfErr result
-        (IsJoinStop (map (known_at (H.held rt.now)) (texts files.now))) }
+        (IsJoinStop (map (known_at (H.held rt.now)) (texts_of_files files.now))) }
 {
-    let all = joined(rt, files)?;
+    let all = join_files(rt, files)?;
     Ok(list_of(rt.alloc(), all.entries())?)
 }
 
@@ -45,7 +45,7 @@ fn list_of(alloc: Global, layers: &[Layer]) -> Result<String, Memory>
 
 /// Adds the line of a layer.
 fn push_line(text: &mut String, layer: &Layer) -> Result<(), Memory>
-    ensures { OnOk result ((line : List ℕ) × IsLine layer.now line
+    ensures { OnOk result ((line : List ℕ) × IsLayerLine layer.now line
         × (string_bytes text.new ≡ string_bytes text.old ++ line)) }
 {
     push_title(text, layer)?;
@@ -67,14 +67,14 @@ fn push_title(text: &mut String, layer: &Layer) -> Result<(), Memory>
         text.push_str("commons")?;
         return Ok(());
     }
-    text.push_str(word_of(layer.kind))?;
+    text.push_str(kind_word(layer.kind))?;
     text.push_str(name)?;
     Ok(())
 }
 
 /// What stands before the name of a layer of this kind.
-fn word_of(kind: LayerKind) -> &'static str
-    ensures { result.now ≡ word kind }
+fn kind_word(kind: LayerKind) -> &'static str
+    ensures { result.now ≡ kind_word kind }
 {
     match kind {
         LayerKind::Layer => "layer ",
@@ -84,7 +84,7 @@ fn word_of(kind: LayerKind) -> &'static str
 
 /// How many rows the state bytes of a site have. It is told by 8 bytes at their head.
 fn rows_of(site: &Replica) -> Result<u64, Memory>
-    ensures { IfOk result (HasRows site.now) }
+    ensures { IfOk result (HasRowCount site.now) }
 {
     let mut head = [0u8; HEAD];
     site.state_writer()?.fill(&mut head)?;
@@ -98,7 +98,7 @@ fn rows_of(site: &Replica) -> Result<u64, Memory>
 /// # Errors
 ///
 /// `BadName`, of no input; and as `joined`.
-pub fn show<H: AllocGlobal + Shelf>(
+pub fn show<H: AllocGlobal + FileSystem>(
     rt: &H,
     kind: LayerKind,
     file: &str,
@@ -109,7 +109,7 @@ pub fn show<H: AllocGlobal + Shelf>(
     ensures stop { IfErr result (IsShowStop (known_at (H.held rt.now) file.now) name.now) }
 {
     check_name(name)?;
-    let all = joined(rt, &[file])?;
+    let all = join_files(rt, &[file])?;
     match all.get(kind, name) {
         Some(layer) => Ok(content_of(rt.alloc(), layer)?),
         None => Ok(None),

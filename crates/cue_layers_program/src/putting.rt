@@ -1,17 +1,17 @@
 //! Layers that are put into a map that lies in a file, and removed from it.
 ghost use Rattle.std.specs.Prelude.{◌≡◌, ◌⊎◌, IfOk, IfErr, OnOk};
-ghost use Rattle.cue_layers.specs.Names.{IsName};
+ghost use Rattle.cue_layers.specs.Names.{IsLayerName};
 ghost use Rattle.cue_layers.specs.View.{IsTooLarge};
 ghost use Rattle.cue_layers.specs.Refusals.{out_of_memory};
-ghost use Rattle.cue_program.specs.Files.{texts};
+ghost use Rattle.cue_program.specs.Files.{texts_of_files};
 ghost use Rattle.cue_program.specs.Inputs.{inputs_of};
-ghost use Rattle.cue_layers_program.specs.Changes.{order, IsChange, IsChangeStop, IsMadeTooLarge};
+ghost use Rattle.cue_layers_program.specs.Changes.{order, IsMapChange, IsChangeStop, IsMadeTooLarge};
 ghost use Rattle.cue_layers_program.specs.Changes.{IsPutMade, IsPutStop, IsRemovalStop, IsRemoved};
 
 use crate::map_file::{check_name, put_map, read_map};
 use crate::stop::LayersStop;
 use cue_layers::{LayerKind, Layers, LayersRefusal, Piece};
-use cue_program::{Shelf, site_for};
+use cue_program::{FileSystem, site_for};
 use std::alloc::Global;
 use std::io::Read;
 
@@ -25,7 +25,7 @@ use std::io::Read;
 /// (`NotWellFormed`); the revisions (`RevisionsUsed`); and the limit (`ViewTooLarge`, where the view
 /// has more rows after the put, and had no more before it). And `Device`, and want of memory. What
 /// lay there, a file or nothing, lies there then.
-pub fn put<H: AllocGlobal + Shelf, R: Read>(
+pub fn put<H: AllocGlobal + FileSystem, R: Read>(
     rt: &mut H,
     kind: LayerKind,
     name: &str,
@@ -35,15 +35,15 @@ pub fn put<H: AllocGlobal + Shelf, R: Read>(
     input: &mut R,
 ) -> Result<u64, LayersStop>
     ensures put { IfOk result (IsPutMade H.makes H.held
-        (order kind name.now map.now (texts files.now) (R.remaining input.old) limit)
+        (order kind name.now map.now (texts_of_files files.now) (R.remaining input.old) limit)
         rt.old rt.new) }
     ensures stop { IfErr result (IsPutStop H.makes H.held
-        (order kind name.now map.now (texts files.now) (R.remaining input.old) limit)
+        (order kind name.now map.now (texts_of_files files.now) (R.remaining input.old) limit)
         rt.old rt.new) }
 {
     check_name(name)?;
     let before = read_map(rt, map)?;
-    let (after, revision) = changed(&*rt, &before, kind, name, files, input)?;
+    let (after, revision) = put_files(&*rt, &before, kind, name, files, input)?;
     check_limit(rt.alloc(), &before, &after, limit)?;
     put_map(rt, map, &after)?;
     Ok(revision)
@@ -55,7 +55,7 @@ pub fn put<H: AllocGlobal + Shelf, R: Read>(
 /// # Errors
 ///
 /// As `put`, of the name, the map and the revisions. And `Device`, and want of memory.
-pub fn remove<H: AllocGlobal + Shelf>(
+pub fn remove<H: AllocGlobal + FileSystem>(
     rt: &mut H,
     kind: LayerKind,
     name: &str,
@@ -77,7 +77,7 @@ pub fn remove<H: AllocGlobal + Shelf>(
 }
 
 /// A map after a put of these files, or of what the reader gives, and the revision of the put.
-pub fn changed<H: AllocGlobal + Shelf, R: Read>(
+pub fn put_files<H: AllocGlobal + FileSystem, R: Read>(
     rt: &H,
     before: &Layers,
     kind: LayerKind,
@@ -85,11 +85,11 @@ pub fn changed<H: AllocGlobal + Shelf, R: Read>(
     files: &[&str],
     input: &mut R,
 ) -> Result<(Layers, u64), LayersStop>
-    requires { IsName name.now }
-    ensures changed { IfOk result (λ made. IsChange before.now kind name.now
-        (inputs_of (H.held rt.now) (texts files.now) (R.remaining input.old)) made.0 made.1) }
+    requires { IsLayerName name.now }
+    ensures changed { IfOk result (λ made. IsMapChange before.now kind name.now
+        (inputs_of (H.held rt.now) (texts_of_files files.now) (R.remaining input.old)) made.0 made.1) }
     ensures stop { IfErr result (IsChangeStop before.now kind name.now
-        (inputs_of (H.held rt.now) (texts files.now) (R.remaining input.old))) }
+        (inputs_of (H.held rt.now) (texts_of_files files.now) (R.remaining input.old))) }
 {
     let site = site_for(rt, files, input)?;
     let alloc = rt.alloc();

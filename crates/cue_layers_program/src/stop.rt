@@ -1,6 +1,6 @@
 use cue_device::Fault;
 use cue_layers::LayersRefusal;
-use cue_program::{Memory, Stop};
+use cue_program::{Memory, RunError};
 use cue_replica::Refusal;
 use std::alloc::{AllocError, AllocFailed};
 
@@ -17,9 +17,9 @@ pub enum LayersStop {
 }
 
 impl From<Fault> for LayersStop {
-    ghost use Rattle.cue_layers_program.specs.Stops.{IsDevice};
+    ghost use Rattle.cue_layers_program.specs.Stops.{IsDeviceLayersStop};
 
-    ghost from_gives = { λ _ stop. IsDevice stop };
+    ghost from_gives = { λ _ stop. IsDeviceLayersStop stop };
 
     fn from(_fault: Fault) -> LayersStop {
         LayersStop::Device
@@ -27,9 +27,9 @@ impl From<Fault> for LayersStop {
 }
 
 impl From<LayersRefusal> for LayersStop {
-    ghost use Rattle.cue_layers_program.specs.Stops.{IsRefusal};
+    ghost use Rattle.cue_layers_program.specs.Stops.{IsRefusalLayersStop};
 
-    ghost from_gives = { λ why stop. IsRefusal why stop };
+    ghost from_gives = { λ why stop. IsRefusalLayersStop why stop };
 
     fn from(why: LayersRefusal) -> LayersStop {
         LayersStop::Refused(why)
@@ -37,9 +37,9 @@ impl From<LayersRefusal> for LayersStop {
 }
 
 impl From<Memory> for LayersStop {
-    ghost use Rattle.cue_layers_program.specs.Stops.{IsMemory};
+    ghost use Rattle.cue_layers_program.specs.Stops.{IsMemoryLayersStop};
 
-    ghost from_gives = { λ _ stop. IsMemory stop };
+    ghost from_gives = { λ _ stop. IsMemoryLayersStop stop };
 
     fn from(memory: Memory) -> LayersStop {
         LayersStop::Refused(LayersRefusal::from(memory))
@@ -47,9 +47,9 @@ impl From<Memory> for LayersStop {
 }
 
 impl From<AllocError> for LayersStop {
-    ghost use Rattle.cue_layers_program.specs.Stops.{IsMemory};
+    ghost use Rattle.cue_layers_program.specs.Stops.{IsMemoryLayersStop};
 
-    ghost from_gives = { λ _ stop. IsMemory stop };
+    ghost from_gives = { λ _ stop. IsMemoryLayersStop stop };
 
     fn from(error: AllocError) -> LayersStop {
         LayersStop::from(Memory::from(error))
@@ -57,28 +57,28 @@ impl From<AllocError> for LayersStop {
 }
 
 impl<T: Drop> From<AllocFailed<T>> for LayersStop {
-    ghost use Rattle.cue_layers_program.specs.Stops.{IsMemory};
+    ghost use Rattle.cue_layers_program.specs.Stops.{IsMemoryLayersStop};
 
-    ghost from_gives = { λ _ stop. IsMemory stop };
+    ghost from_gives = { λ _ stop. IsMemoryLayersStop stop };
 
     fn from(error: AllocFailed<T>) -> LayersStop {
         LayersStop::from(Memory::from(error))
     }
 }
 
-impl From<Stop> for LayersStop {
+impl From<RunError> for LayersStop {
     ghost use Rattle.std.specs.Prelude.{◌≡◌};
     ghost use Rattle.cue_layers_program.specs.Stops.{stop_of};
 
     ghost from_gives = { λ end stop. stop ≡ stop_of end };
 
-    fn from(stop: Stop) -> LayersStop {
+    fn from(stop: RunError) -> LayersStop {
         match stop {
-            Stop::Device => LayersStop::Device,
-            Stop::Refused(kind) => {
+            RunError::Device => LayersStop::Device,
+            RunError::Refused(kind) => {
                 LayersStop::Refused(LayersRefusal::Store(Refusal::at(kind, 0)))
             }
-            Stop::RefusedInput(why, number) => {
+            RunError::RefusedInput(why, number) => {
                 LayersStop::RefusedInput(LayersRefusal::Store(why), number)
             }
         }

@@ -2,21 +2,21 @@
 use Rattle.std.specs.Prelude.{◌≡◌, ◌⊎◌, List, [], ◌∷◌, ◌++◌, map}
 use Rattle.cue_lattice.specs.Path.{Step, Path}
 use Rattle.cue_lattice.specs.Question.{Refusals}
-use Rattle.cue_layers.specs.View.{parts_of}
+use Rattle.cue_layers.specs.View.{parts_of_layers}
 use Rattle.cue_layers.specs.declared.layer.Layer.{Layer}
 use Rattle.cue_policies.specs.Tables.{TablesRefuse}
 use Rattle.cue_row.specs.declared.parts.RowParts.{RowParts as Row}
 use Rattle.cue_table.specs.Tree.{Tree}
 use Rattle.cue_why.specs.Finding.{Makes}
-use Rattle.cue_why.specs.Least.{IsLeft, IsLeast}
-use Rattle.cue_why.specs.Reported.{IsOfLabel}
+use Rattle.cue_why.specs.Least.{IsLeft, IsLeastList}
+use Rattle.cue_why.specs.Reported.{IsLabelReported}
 use Rattle.cue_why.specs.Shown.{AreShown}
 use Rattle.cue_layers_why.specs.declared.naming.LayerPart.{LayerPart}
 use Rattle.cue_layers_why.specs.declared.naming.NamedLayer.{NamedLayer}
 
 -- what the view of layers refuses
 abbrev pub LayersRefuse : List Layer → Refusals
-LayersRefuse layers = TablesRefuse (parts_of layers)
+LayersRefuse layers = TablesRefuse (parts_of_layers layers)
 
 -- some layers make what the report of the view of all says at a path
 abbrev pub LayersMake : List Layer → Path → List Layer → Type 0
@@ -25,8 +25,8 @@ LayersMake all path some = Makes (LayersRefuse all) (LayersRefuse some) path
 -- The path for which parts are shown: where the label alone is reported, the path without it.
 abbrev pub IsShownPath : Refusals → Path → Path → Type 0
 IsShownPath view path shown =
-    (IsOfLabel view path × ((step : Step) × (path ≡ shown ++ step ∷ [])))
-    ⊎ ((¬ IsOfLabel view path) × (shown ≡ path))
+    (IsLabelReported view path × ((step : Step) × (path ≡ shown ++ step ∷ [])))
+    ⊎ ((¬ IsLabelReported view path) × (shown ≡ path))
 
 abbrev pub part_pair : LayerPart → Path × Tree Row
 part_pair part = (part.written, part.table)
@@ -48,7 +48,7 @@ AreNamed path (layer ∷ layers) (one ∷ named) = IsNamed path layer one × Are
 pub record IsWhy (layers : List Layer) (path : Path) (named : List NamedLayer) : Type 0 where
   pub makers : List Layer
   pub left : IsLeft (LayersMake layers path) [] layers makers
-  pub least : IsLeast (LayersMake layers path) makers
+  pub least : IsLeastList (LayersMake layers path) makers
   pub shown : Path
   pub shown_is : IsShownPath (LayersRefuse layers) path shown
   pub named_are : AreNamed shown makers named

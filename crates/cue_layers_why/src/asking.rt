@@ -5,7 +5,7 @@ ghost use Rattle.cue_why.specs.Reported.{IsReported};
 ghost use Rattle.cue_layers_why.specs.Why.{IsWhy, LayersRefuse};
 ghost use Rattle.cue_layers_why.specs.Inner.Pairs.{IsFront};
 
-use crate::naming::{NamedLayer, named_layers};
+use crate::naming::{NamedLayer, name_layers};
 use crate::sources::sources_of;
 use cue_lattice::Memory;
 use cue_layers::Layers;
@@ -28,7 +28,7 @@ pub fn why(alloc: Global, layers: &Layers, path: &[Step]) -> Result<Vec<NamedLay
 {
     let made = makers(alloc, sources_of(alloc, layers.entries())?, path)?;
     let place = shown_path(path, made.of_label);
-    named_layers(alloc, made.sources, place)
+    name_layers(alloc, made.sources, place)
 }
 
 /// A path, or the path without its last step.

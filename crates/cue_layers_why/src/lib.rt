@@ -8,6 +8,6 @@ mod sources;
 
 pub use asking::why;
 pub use cue_layers::{LayerKind, Layers, Memory, Text};
-pub use cue_why::{Place, Row, Step, Table};
+pub use cue_why::{ReportPlace, Row, Step, Table};
 pub use lines::why_lines;
 pub use naming::{LayerPart, NamedLayer};

@@ -31,14 +31,14 @@ fn push_layer(alloc: Global, out: &mut String, layer: &NamedLayer) -> Result<(),
 
 /// Writes the line of a name.
 fn push_name(out: &mut String, kind: LayerKind, name: &str) -> Result<(), Memory> {
-    out.push_str(word(kind, name))?;
+    out.push_str(kind_word(kind, name))?;
     out.push_str(name)?;
     out.push('\n')?;
     Ok(())
 }
 
 /// What is in front of a name.
-fn word(kind: LayerKind, name: &str) -> &'static str {
+fn kind_word(kind: LayerKind, name: &str) -> &'static str {
     match kind {
         LayerKind::Policy => "policy ",
         LayerKind::Layer => { if name.is_empty() { "commons" } else { "layer " } }

@@ -9,16 +9,16 @@ ghost use Rattle.cue_layers_why.specs.Why.{part_pair};
 
 use cue_lattice::{Memory, Text};
 use cue_policies::LayerKind;
-use cue_report::Place;
+use cue_report::ReportPlace;
 use cue_row::{Row, Step};
 use cue_table::Table;
-use cue_why::{Source, WrittenPart, shown_parts};
+use cue_why::{LayerSource, WrittenPart, shown_parts};
 use std::alloc::Global;
 
 /// What a layer wrote at a path, which is written as the layer wrote it.
 #[derive(Drop)]
 pub struct LayerPart {
-    pub written: Place,
+    pub written: ReportPlace,
     pub table: Table<Row>,
 }
 
@@ -35,9 +35,9 @@ pub struct NamedLayer {
 }
 
 /// Each source, named for a path.
-pub(crate) fn named_layers(
+pub(crate) fn name_layers(
     alloc: Global,
-    sources: Vec<Source>,
+    sources: Vec<LayerSource>,
     path: &[Step],
 ) -> Result<Vec<NamedLayer>, Memory>
     ensures { IfOk result (λ named.
@@ -45,18 +45,18 @@ pub(crate) fn named_layers(
 {
     let mut named = Vec::with_capacity(alloc, sources.len())?;
     for source in sources {
-        named.push(named_layer(alloc, source, path)?)?;
+        named.push(name_layer(alloc, source, path)?)?;
     }
     Ok(named)
 }
 
 /// A source, named for a path.
-fn named_layer(alloc: Global, source: Source, path: &[Step]) -> Result<NamedLayer, Memory>
+fn name_layer(alloc: Global, source: LayerSource, path: &[Step]) -> Result<NamedLayer, Memory>
     ensures { IfOk result (IsNamedSource (map step_of path.now) source.entry) }
 {
     let _root = source.table.root();
     let parts = layer_parts(alloc, shown_parts(alloc, &source, path)?)?;
-    let Source {
+    let LayerSource {
         kind,
         name,
         table: _,

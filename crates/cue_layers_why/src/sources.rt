@@ -4,11 +4,14 @@ ghost use Rattle.cue_layers_why.specs.Inner.Pairs.{AreSources, IsSource};
 
 use cue_lattice::Memory;
 use cue_layers::Layer;
-use cue_why::Source;
+use cue_why::LayerSource;
 use std::alloc::Global;
 
 /// Each layer of a list, as a source.
-pub(crate) fn sources_of<'a>(alloc: Global, layers: &'a [Layer]) -> Result<Vec<Source<'a>>, Memory>
+pub(crate) fn sources_of<'a>(
+    alloc: Global,
+    layers: &'a [Layer],
+) -> Result<Vec<LayerSource<'a>>, Memory>
     ensures { IfOk result (λ sources. AreSources layers.now sources.items) }
 {
     let mut sources = Vec::with_capacity(alloc, layers.len())?;
@@ -19,10 +22,10 @@ pub(crate) fn sources_of<'a>(alloc: Global, layers: &'a [Layer]) -> Result<Vec<S
 }
 
 /// A layer as a source.
-fn source_of<'a>(alloc: Global, layer: &'a Layer) -> Result<Source<'a>, Memory>
+fn source_of<'a>(alloc: Global, layer: &'a Layer) -> Result<LayerSource<'a>, Memory>
     ensures { IfOk result (IsSource layer.now) }
 {
-    Ok(Source {
+    Ok(LayerSource {
         kind: layer.kind,
         name: layer.name.copy(alloc)?,
         table: layer.content.table(),

@@ -21,7 +21,7 @@ one_view layers v w is other = sound.one_table v w is.valid other.valid same
         (λ h. r.1 (l.0 h), λ h. l.1 (r.0 h))
 
 -- a table has the reports of itself
-itself : (v : Table) → reports.AreToldAlike v v
+itself : (v : Table) → reports.HaveEqualReports v v
 itself v = record {
   reports = one_report (language.table_refuses v) (language.table_refuses v) (λ path question. (λ h. h, λ h. h));
   text = refl;
@@ -32,7 +32,7 @@ map_itself : (a : List Layer) → HaveEqualViews a a
 map_itself a = record {
   bytes = refl;
   too_large = λ limit. (λ h. h, λ h. h);
-  views = λ v w is other. let same = one_view a v w is other in (same, subst (reports.AreToldAlike v) same (itself v));
+  views = λ v w is other. let same = one_view a v w is other in (same, subst (reports.HaveEqualReports v) same (itself v));
 }
 
 pub equal_maps : (a b : List Layer) → a ≡ b → HaveEqualViews a b

@@ -6,83 +6,83 @@ use Rattle.cue_lattice.specs.World.{text, state, pieces_refuse}
 use Rattle.cue_lattice.specs.declared.text.Text.{Text}
 use Rattle.cue_policies.specs.declared.kind.LayerKind.{LayerKind}
 use Rattle.cue_replica.specs.Language.{Table, language}
-use Rattle.cue_replica.specs.Replica.{Adds}
+use Rattle.cue_replica.specs.Replica.{AddsRefusals}
 use Rattle.cue_replica.proofs.Adding.{one_piece}
 use Rattle.cue_replica.proofs.Along.{length-along, along_at, along_set, along_push, set_same, found_within}
 use Rattle.cue_layers.specs.Join.{CommonsGrows}
-use Rattle.cue_layers.specs.Maps.{IsMapOf, commons_put, put_of}
+use Rattle.cue_layers.specs.Maps.{IsMapOfPuts, commons_put, put_of}
 use Rattle.cue_layers.specs.Puts.{Put}
-use Rattle.cue_layers.specs.Refusals.{piece_of}
+use Rattle.cue_layers.specs.Refusals.{piece_of_refusal}
 use Rattle.cue_layers.specs.declared.piece.Piece.{Piece as OwnedPiece}
 use Rattle.cue_layers.specs.declared.refusal.LayersRefusal.{LayersRefusal}
 use Rattle.cue_layers.proofs.Adding.{adds_puts}
 use Rattle.cue_layers.proofs.Maps.{joins_puts}
 use Rattle.cue_layers.proofs.OneSpelling.{one_of_bytes, map_of_bytes}
-use Rattle.cue_layers_world.specs.Inner.Steps.{Map, Agrees, HappensAt, Puts, Submits, Takes, Joins, TakesForeign, Sends, Delivers, IsHeld, Steps}
-use Rattle.cue_layers_world.specs.Sites.{IsSiteOf, IsMessageOf}
-use Rattle.cue_layers_world.specs.World.{Sets, IsThere, IsRefusal, IsMarked, add, send, puts_at}
-use Rattle.cue_layers_world.specs.declared.world.Event.{Event}
-use Rattle.cue_layers_world.specs.declared.world.Event.TheVariants as events
-use Rattle.cue_layers_world.specs.declared.world.Outcome.{Outcome}
-use Rattle.cue_layers_world.specs.declared.world.Outcome.TheVariants as outcomes
+use Rattle.cue_layers_world.specs.Inner.Steps.{Map, MapsAgree, HappensAtMap, PutsLayer, SubmitsToMap, TakesIntoMap, Joins, TakesForeign, SendsMap, DeliversMap, IsHeld, StepsMaps}
+use Rattle.cue_layers_world.specs.Sites.{IsSiteOf, IsMessageOfMap}
+use Rattle.cue_layers_world.specs.World.{LayerSets, IsMapThere, IsWorldRefusal, IsMarked, add_to_layers, send_set, puts_at}
+use Rattle.cue_layers_world.specs.declared.world.LayersEvent.{LayersEvent}
+use Rattle.cue_layers_world.specs.declared.world.LayersEvent.TheVariants as events
+use Rattle.cue_layers_world.specs.declared.world.LayersOutcome.{LayersOutcome}
+use Rattle.cue_layers_world.specs.declared.world.LayersOutcome.TheVariants as outcomes
 use Rattle.cue_layers_world.proofs.Messages.{read_back, only_memory}
 use Rattle.cue_layers_world.proofs.Nexts.{may_put, put_refusal}
 
 -- where there is no such site or message
 nothing_happens :
-    (event : Event) (old new : List Map) (messages : List (Vec ℕ Global)) (outcome : Outcome) (sets : Sets)
-    → (IsThere sets event → ⊥) → new ≡ old → outcome ≡ outcomes.NoSuch → Agrees old messages sets → Steps event new messages outcome sets
+    (event : LayersEvent) (old new : List Map) (messages : List (Vec ℕ Global)) (outcome : LayersOutcome) (sets : LayerSets)
+    → (IsMapThere sets event → ⊥) → new ≡ old → outcome ≡ outcomes.NoSuch → MapsAgree old messages sets → StepsMaps event new messages outcome sets
 nothing_happens event old new messages outcome sets absent same none agrees =
-    let P : Outcome → Type 0 = λ o. Steps event new messages o sets in
-    let Q : List Map → Type 0 = λ n. Steps event n messages outcomes.NoSuch sets in
+    let P : LayersOutcome → Type 0 = λ o. StepsMaps event new messages o sets in
+    let Q : List Map → Type 0 = λ n. StepsMaps event n messages outcomes.NoSuch sets in
     subst P (sym none) (subst Q (sym same) (record {
       some = (sets, (absent, refl));
-      every = λ next h. subst (Agrees old messages) (sym h.1) agrees;
+      every = λ next h. subst (MapsAgree old messages) (sym h.1) agrees;
     }))
 
 -- where it is refused
 stays :
-    (event : Event) (sites : List Map) (messages : List (Vec ℕ Global)) (why : LayersRefusal) (sets : Sets)
-    → IsThere sets event → IsRefusal sets event why → Agrees sites messages sets → Steps event sites messages (outcomes.Refused why) sets
+    (event : LayersEvent) (sites : List Map) (messages : List (Vec ℕ Global)) (why : LayersRefusal) (sets : LayerSets)
+    → IsMapThere sets event → IsWorldRefusal sets event why → MapsAgree sites messages sets → StepsMaps event sites messages (outcomes.Refused why) sets
 stays event sites messages why sets there refusal agrees = record {
   some = (sets, (there, refusal, refl));
-  every = λ next h. subst (Agrees sites messages) (sym h.2) agrees;
+  every = λ next h. subst (MapsAgree sites messages) (sym h.2) agrees;
 }
 
 refused_happens :
-    (event : Event) (old : List Map) (messages : List (Vec ℕ Global)) (site : ℕ) (before after : Map) (why : LayersRefusal) (sets : Sets)
-    → IsThere sets event → IsRefusal sets event why → after ≡ before → slice_get old site ≡ Some before → Agrees old messages sets
-    → Steps event (slice_set old site after) messages (outcomes.Refused why) sets
+    (event : LayersEvent) (old : List Map) (messages : List (Vec ℕ Global)) (site : ℕ) (before after : Map) (why : LayersRefusal) (sets : LayerSets)
+    → IsMapThere sets event → IsWorldRefusal sets event why → after ≡ before → slice_get old site ≡ Some before → MapsAgree old messages sets
+    → StepsMaps event (slice_set old site after) messages (outcomes.Refused why) sets
 refused_happens event old messages site before after why sets there refusal same found agrees =
     let kept : slice_set old site after ≡ old = ap (λ (x : Map). slice_set old site x) same ∙ set_same old site before found in
-    let Q : List Map → Type 0 = λ n. Steps event n messages (outcomes.Refused why) sets in
+    let Q : List Map → Type 0 = λ n. StepsMaps event n messages (outcomes.Refused why) sets in
     subst Q (sym kept) (stays event old messages why sets there refusal agrees)
 
 -- a site of the world is one of the sets
-site_there : (old : List Map) (messages : List (Vec ℕ Global)) (sets : Sets) (site : ℕ) (before : Map) → Agrees old messages sets → slice_get old site ≡ Some before → site < length sets.sites
+site_there : (old : List Map) (messages : List (Vec ℕ Global)) (sets : LayerSets) (site : ℕ) (before : Map) → MapsAgree old messages sets → slice_get old site ≡ Some before → site < length sets.sites
 site_there old messages sets site before agrees found =
     let within = found_within old site before found in
     omega (arith, length-along IsSiteOf old sets.sites agrees.sites)
 
-site_absent : (old : List Map) (messages : List (Vec ℕ Global)) (sets : Sets) (site : ℕ) → Agrees old messages sets → length old ≤ site → site < length sets.sites → ⊥
+site_absent : (old : List Map) (messages : List (Vec ℕ Global)) (sets : LayerSets) (site : ℕ) → MapsAgree old messages sets → length old ≤ site → site < length sets.sites → ⊥
 site_absent old messages sets site agrees past there = omega (arith, length-along IsSiteOf old sets.sites agrees.sites)
 
-message_there : (old : List Map) (messages : List (Vec ℕ Global)) (sets : Sets) (message : ℕ) (bytes : Vec ℕ Global) → Agrees old messages sets → slice_get messages message ≡ Some bytes → message < length sets.messages
+message_there : (old : List Map) (messages : List (Vec ℕ Global)) (sets : LayerSets) (message : ℕ) (bytes : Vec ℕ Global) → MapsAgree old messages sets → slice_get messages message ≡ Some bytes → message < length sets.messages
 message_there old messages sets message bytes agrees found =
     let within = found_within messages message bytes found in
-    omega (arith, length-along IsMessageOf messages sets.messages agrees.sent)
+    omega (arith, length-along IsMessageOfMap messages sets.messages agrees.sent)
 
-message_absent : (old : List Map) (messages : List (Vec ℕ Global)) (sets : Sets) (message : ℕ) → Agrees old messages sets → length messages ≤ message → message < length sets.messages → ⊥
-message_absent old messages sets message agrees past there = omega (arith, length-along IsMessageOf messages sets.messages agrees.sent)
+message_absent : (old : List Map) (messages : List (Vec ℕ Global)) (sets : LayerSets) (message : ℕ) → MapsAgree old messages sets → length messages ≤ message → message < length sets.messages → ⊥
+message_absent old messages sets message agrees past there = omega (arith, length-along IsMessageOfMap messages sets.messages agrees.sent)
 
 -- the map of a site is that of its puts
-site_of : (old : List Map) (messages : List (Vec ℕ Global)) (sets : Sets) (site : ℕ) (before : Map) → Agrees old messages sets → slice_get old site ≡ Some before → IsMapOf (puts_at sets.sites site) before
+site_of : (old : List Map) (messages : List (Vec ℕ Global)) (sets : LayerSets) (site : ℕ) (before : Map) → MapsAgree old messages sets → slice_get old site ≡ Some before → IsMapOfPuts (puts_at sets.sites site) before
 site_of old messages sets site before agrees found = along_at IsSiteOf old sets.sites site before [] agrees.sites found
 
 -- a site accepts puts
 accepts :
-    (old : List Map) (messages : List (Vec ℕ Global)) (sets : Sets) (site : ℕ) (after : Map) (more : List Put)
-    → Agrees old messages sets → IsMapOf (puts_at sets.sites site ++ more) after → Agrees (slice_set old site after) messages (add sets site more)
+    (old : List Map) (messages : List (Vec ℕ Global)) (sets : LayerSets) (site : ℕ) (after : Map) (more : List Put)
+    → MapsAgree old messages sets → IsMapOfPuts (puts_at sets.sites site ++ more) after → MapsAgree (slice_set old site after) messages (add_to_layers sets site more)
 accepts old messages sets site after more agrees of = record {
   sites = along_set IsSiteOf old sets.sites site after (puts_at sets.sites site ++ more) agrees.sites of;
   sent = agrees.sent;
@@ -90,33 +90,33 @@ accepts old messages sets site after more agrees of = record {
 
 -- ---- a put
 puts :
-    (old : List Map) (messages : List (Vec ℕ Global)) (site : ℕ) (kind : LayerKind) (name : Text) (pieces : Vec OwnedPiece Global) (outcome : Outcome) (sets : Sets) (before after : Map)
-    → slice_get old site ≡ Some before → Puts kind name (map piece_of pieces.items) before after outcome → Agrees old messages sets
-    → Steps (events.Put site kind name pieces) (slice_set old site after) messages outcome sets
+    (old : List Map) (messages : List (Vec ℕ Global)) (site : ℕ) (kind : LayerKind) (name : Text) (pieces : Vec OwnedPiece Global) (outcome : LayersOutcome) (sets : LayerSets) (before after : Map)
+    → slice_get old site ≡ Some before → PutsLayer kind name (map piece_of_refusal pieces.items) before after outcome → MapsAgree old messages sets
+    → StepsMaps (events.Put site kind name pieces) (slice_set old site after) messages outcome sets
 puts old messages site kind name pieces (outcomes.Put revision) sets before after found step agrees =
     let of = site_of old messages sets site before agrees found in
-    let all = map piece_of pieces.items in
+    let all = map piece_of_refusal pieces.items in
     let put : Put = record { kind = kind; name = name; revision = revision; pieces = all } in
     let more = accepts old messages sets site after (put ∷ []) agrees (adds_puts.put before after (puts_at sets.sites site) kind name all revision of step) in
     record {
-      some = (add sets site (put ∷ []), (site_there old messages sets site before agrees found, (may_put (puts_at sets.sites site) before after kind name all revision of step, refl)));
-      every = λ next h. subst (Agrees (slice_set old site after) messages) (sym h.1.1) more;
+      some = (add_to_layers sets site (put ∷ []), (site_there old messages sets site before agrees found, (may_put (puts_at sets.sites site) before after kind name all revision of step, refl)));
+      every = λ next h. subst (MapsAgree (slice_set old site after) messages) (sym h.1.1) more;
     }
 puts old messages site kind name pieces (outcomes.Refused why) sets before after found step agrees =
     let of = site_of old messages sets site before agrees found in
     refused_happens (events.Put site kind name pieces) old messages site before after why sets (site_there old messages sets site before agrees found)
-    (put_refusal (puts_at sets.sites site) before of kind name (map piece_of pieces.items) why step.1) step.0 found agrees
+    (put_refusal (puts_at sets.sites site) before of kind name (map piece_of_refusal pieces.items) why step.1) step.0 found agrees
 puts old messages site kind name pieces outcomes.Accepted sets before after found step agrees = absurd step
 puts old messages site kind name pieces (outcomes.Sent number) sets before after found step agrees = absurd step
 puts old messages site kind name pieces outcomes.NoSuch sets before after found step agrees = absurd step
 
 pub put_happens :
-    (old new : List Map) (messages : List (Vec ℕ Global)) (site : ℕ) (kind : LayerKind) (name : Text) (pieces : Vec OwnedPiece Global) (outcome : Outcome) (sets : Sets)
-    → HappensAt (Puts kind name (map piece_of pieces.items)) old site new outcome → Agrees old messages sets → Steps (events.Put site kind name pieces) new messages outcome sets
+    (old new : List Map) (messages : List (Vec ℕ Global)) (site : ℕ) (kind : LayerKind) (name : Text) (pieces : Vec OwnedPiece Global) (outcome : LayersOutcome) (sets : LayerSets)
+    → HappensAtMap (PutsLayer kind name (map piece_of_refusal pieces.items)) old site new outcome → MapsAgree old messages sets → StepsMaps (events.Put site kind name pieces) new messages outcome sets
 put_happens old new messages site kind name pieces outcome sets (inl none) agrees =
     nothing_happens (events.Put site kind name pieces) old new messages outcome sets (site_absent old messages sets site agrees none.0) none.1 none.2 agrees
 put_happens old new messages site kind name pieces outcome sets (inr some) agrees =
-    let P : List Map → Type 0 = λ n. Steps (events.Put site kind name pieces) n messages outcome sets in
+    let P : List Map → Type 0 = λ n. StepsMaps (events.Put site kind name pieces) n messages outcome sets in
     subst P (sym some.3) (puts old messages site kind name pieces outcome sets some.0 some.1 some.2 some.4 agrees)
 
 -- ---- the commons
@@ -126,23 +126,23 @@ grows_by [] new a b same grows = absurd grows
 grows_by (l ∷ ls) [] a b same grows = absurd grows
 grows_by (l ∷ ls) (m ∷ ms) a b same grows = (grows.0, adds_by l.content m.content grows.1, grows.2)
   where
-    adds_by : (x y : Table) → Adds x a y → Adds x b y
+    adds_by : (x y : Table) → AddsRefusals x a y → AddsRefusals x b y
     adds_by x y adds path question =
         let s = same path question in
         let d = adds path question in
         (λ h. ⊎_elim (λ p. inl p) (λ p. inr (s.0 p)) (d.0 h), λ h. d.1 (⊎_elim (λ p. inl p) (λ p. inr (s.1 p)) h))
 
 submits :
-    (old : List Map) (messages : List (Vec ℕ Global)) (site : ℕ) (t : Text) (outcome : Outcome) (sets : Sets) (before after : Map)
-    → slice_get old site ≡ Some before → Submits t before after outcome → Agrees old messages sets
-    → Steps (events.Submit site t) (slice_set old site after) messages outcome sets
+    (old : List Map) (messages : List (Vec ℕ Global)) (site : ℕ) (t : Text) (outcome : LayersOutcome) (sets : LayerSets) (before after : Map)
+    → slice_get old site ≡ Some before → SubmitsToMap t before after outcome → MapsAgree old messages sets
+    → StepsMaps (events.Submit site t) (slice_set old site after) messages outcome sets
 submits old messages site t outcomes.Accepted sets before after found step agrees =
     let of = site_of old messages sets site before agrees found in
     let grows = grows_by before after (language.text_refuses t) (pieces_refuse language (text t ∷ [])) (one_piece (text t)) step.1 in
     let more = accepts old messages sets site after (commons_put (text t ∷ []) ∷ []) agrees (adds_puts.commons before after (puts_at sets.sites site) (text t) of step.2 grows) in
     record {
-      some = (add sets site (commons_put (text t ∷ []) ∷ []), (site_there old messages sets site before agrees found, (step.0, refl)));
-      every = λ next h. subst (Agrees (slice_set old site after) messages) (sym h.1.1) more;
+      some = (add_to_layers sets site (commons_put (text t ∷ []) ∷ []), (site_there old messages sets site before agrees found, (step.0, refl)));
+      every = λ next h. subst (MapsAgree (slice_set old site after) messages) (sym h.1.1) more;
     }
 submits old messages site t (outcomes.Refused why) sets before after found step agrees =
     refused_happens (events.Submit site t) old messages site before after why sets (site_there old messages sets site before agrees found) step.1 step.0 found agrees
@@ -151,30 +151,30 @@ submits old messages site t (outcomes.Sent number) sets before after found step 
 submits old messages site t outcomes.NoSuch sets before after found step agrees = absurd step
 
 pub submit_happens :
-    (old new : List Map) (messages : List (Vec ℕ Global)) (site : ℕ) (t : Text) (outcome : Outcome) (sets : Sets)
-    → HappensAt (Submits t) old site new outcome → Agrees old messages sets → Steps (events.Submit site t) new messages outcome sets
+    (old new : List Map) (messages : List (Vec ℕ Global)) (site : ℕ) (t : Text) (outcome : LayersOutcome) (sets : LayerSets)
+    → HappensAtMap (SubmitsToMap t) old site new outcome → MapsAgree old messages sets → StepsMaps (events.Submit site t) new messages outcome sets
 submit_happens old new messages site t outcome sets (inl none) agrees =
     nothing_happens (events.Submit site t) old new messages outcome sets (site_absent old messages sets site agrees none.0) none.1 none.2 agrees
 submit_happens old new messages site t outcome sets (inr some) agrees =
-    let P : List Map → Type 0 = λ n. Steps (events.Submit site t) n messages outcome sets in
+    let P : List Map → Type 0 = λ n. StepsMaps (events.Submit site t) n messages outcome sets in
     subst P (sym some.3) (submits old messages site t outcome sets some.0 some.1 some.2 some.4 agrees)
 
 -- ---- bytes from outside
 takes :
-    (old : List Map) (messages : List (Vec ℕ Global)) (site : ℕ) (bytes : Vec ℕ Global) (outcome : Outcome) (sets : Sets) (before after : Map)
-    → slice_get old site ≡ Some before → ¬ IsMarked bytes.items → Takes bytes.items before after outcome → Agrees old messages sets
-    → Steps (events.Foreign site bytes) (slice_set old site after) messages outcome sets
+    (old : List Map) (messages : List (Vec ℕ Global)) (site : ℕ) (bytes : Vec ℕ Global) (outcome : LayersOutcome) (sets : LayerSets) (before after : Map)
+    → slice_get old site ≡ Some before → ¬ IsMarked bytes.items → TakesIntoMap bytes.items before after outcome → MapsAgree old messages sets
+    → StepsMaps (events.Foreign site bytes) (slice_set old site after) messages outcome sets
 takes old messages site bytes outcomes.Accepted sets before after found plain step agrees =
     let of = site_of old messages sets site before agrees found in
     let put : List Put = commons_put (state bytes.items ∷ []) ∷ [] in
     let grows = grows_by before after (language.state_refuses bytes.items) (pieces_refuse language (state bytes.items ∷ [])) (one_piece (state bytes.items)) step.1 in
     let more = accepts old messages sets site after put agrees (adds_puts.commons before after (puts_at sets.sites site) (state bytes.items) of step.2 grows) in
-    let P : Sets → Type 0 = λ s. Agrees (slice_set old site after) messages s in
+    let P : LayerSets → Type 0 = λ s. MapsAgree (slice_set old site after) messages s in
     record {
-      some = (add sets site put, (site_there old messages sets site before agrees found, (put, inr (plain, step.0, refl), refl)));
+      some = (add_to_layers sets site put, (site_there old messages sets site before agrees found, (put, inr (plain, step.0, refl), refl)));
       every = λ next h. ⊎_elim
           (λ marked. absurd (plain marked.0))
-          (λ taken. subst P (sym (h.1.2 ∙ ap (λ (ps : List Put). add sets site ps) taken.2)) more)
+          (λ taken. subst P (sym (h.1.2 ∙ ap (λ (ps : List Put). add_to_layers sets site ps) taken.2)) more)
           h.1.1;
     }
 takes old messages site bytes (outcomes.Refused why) sets before after found plain step agrees =
@@ -184,22 +184,22 @@ takes old messages site bytes (outcomes.Sent number) sets before after found pla
 takes old messages site bytes outcomes.NoSuch sets before after found plain step agrees = absurd step
 
 joins :
-    (old : List Map) (messages : List (Vec ℕ Global)) (site : ℕ) (bytes : Vec ℕ Global) (outcome : Outcome) (sets : Sets) (before after : Map)
-    → slice_get old site ≡ Some before → IsHeld bytes.items → IsMarked bytes.items → Joins bytes.items before after outcome → Agrees old messages sets
-    → Steps (events.Foreign site bytes) (slice_set old site after) messages outcome sets
+    (old : List Map) (messages : List (Vec ℕ Global)) (site : ℕ) (bytes : Vec ℕ Global) (outcome : LayersOutcome) (sets : LayerSets) (before after : Map)
+    → slice_get old site ≡ Some before → IsHeld bytes.items → IsMarked bytes.items → Joins bytes.items before after outcome → MapsAgree old messages sets
+    → StepsMaps (events.Foreign site bytes) (slice_set old site after) messages outcome sets
 joins old messages site bytes outcomes.Accepted sets before after found held marked step agrees =
     let of = site_of old messages sets site before agrees found in
     let put : List Put = map put_of step.0 in
     let theirs = map_of_bytes bytes.items step.0 held step.1 in
     let more = accepts old messages sets site after put agrees (joins_puts before step.0 after (puts_at sets.sites site) put of theirs step.2) in
-    let P : Sets → Type 0 = λ s. Agrees (slice_set old site after) messages s in
+    let P : LayerSets → Type 0 = λ s. MapsAgree (slice_set old site after) messages s in
     record {
-      some = (add sets site put, (site_there old messages sets site before agrees found, (put, inl (marked, (step.0, step.1, refl)), refl)));
+      some = (add_to_layers sets site put, (site_there old messages sets site before agrees found, (put, inl (marked, (step.0, step.1, refl)), refl)));
       every = λ next h. ⊎_elim
           (λ read.
           let one : read.1.0 ≡ step.0 = one_of_bytes bytes.items read.1.0 step.0 held read.1.1 step.1 in
           let same : h.1.0 ≡ put = read.1.2 ∙ ap (λ (ls : Map). map put_of ls) one in
-          subst P (sym (h.1.2 ∙ ap (λ (ps : List Put). add sets site ps) same)) more)
+          subst P (sym (h.1.2 ∙ ap (λ (ps : List Put). add_to_layers sets site ps) same)) more)
           (λ taken. absurd (taken.0 marked))
           h.1.1;
     }
@@ -210,40 +210,40 @@ joins old messages site bytes (outcomes.Sent number) sets before after found hel
 joins old messages site bytes outcomes.NoSuch sets before after found held marked step agrees = absurd step
 
 pub foreign_happens :
-    (old new : List Map) (messages : List (Vec ℕ Global)) (site : ℕ) (bytes : Vec ℕ Global) (outcome : Outcome) (sets : Sets)
-    → TakesForeign bytes.items old site new outcome → Agrees old messages sets → Steps (events.Foreign site bytes) new messages outcome sets
+    (old new : List Map) (messages : List (Vec ℕ Global)) (site : ℕ) (bytes : Vec ℕ Global) (outcome : LayersOutcome) (sets : LayerSets)
+    → TakesForeign bytes.items old site new outcome → MapsAgree old messages sets → StepsMaps (events.Foreign site bytes) new messages outcome sets
 foreign_happens old new messages site bytes outcome sets step agrees = ⊎_elim (λ read. joined read.0 read.1) (λ taken. took taken.0 taken.1) step.1
   where
     P : List Map → Type 0
-    P n = Steps (events.Foreign site bytes) n messages outcome sets
+    P n = StepsMaps (events.Foreign site bytes) n messages outcome sets
 
     absent : (length old ≤ site) × (new ≡ old) × (outcome ≡ outcomes.NoSuch) → P new
     absent none = nothing_happens (events.Foreign site bytes) old new messages outcome sets (site_absent old messages sets site agrees none.0) none.1 none.2 agrees
 
-    joined : IsMarked bytes.items → HappensAt (Joins bytes.items) old site new outcome → P new
+    joined : IsMarked bytes.items → HappensAtMap (Joins bytes.items) old site new outcome → P new
     joined marked (inl none) = absent none
     joined marked (inr some) = subst P (sym some.3) (joins old messages site bytes outcome sets some.0 some.1 some.2 step.0 marked some.4 agrees)
 
-    took : ¬ IsMarked bytes.items → HappensAt (Takes bytes.items) old site new outcome → P new
+    took : ¬ IsMarked bytes.items → HappensAtMap (TakesIntoMap bytes.items) old site new outcome → P new
     took plain (inl none) = absent none
     took plain (inr some) = subst P (sym some.3) (takes old messages site bytes outcome sets some.0 some.1 some.2 plain some.4 agrees)
 
 -- ---- a message
 delivers :
-    (old : List Map) (messages : List (Vec ℕ Global)) (site message : ℕ) (bytes : Vec ℕ Global) (outcome : Outcome) (sets : Sets) (before after : Map)
-    → slice_get messages message ≡ Some bytes → IsHeld bytes.items → slice_get old site ≡ Some before → Joins bytes.items before after outcome → Agrees old messages sets
-    → Steps (events.Deliver site message) (slice_set old site after) messages outcome sets
+    (old : List Map) (messages : List (Vec ℕ Global)) (site message : ℕ) (bytes : Vec ℕ Global) (outcome : LayersOutcome) (sets : LayerSets) (before after : Map)
+    → slice_get messages message ≡ Some bytes → IsHeld bytes.items → slice_get old site ≡ Some before → Joins bytes.items before after outcome → MapsAgree old messages sets
+    → StepsMaps (events.Deliver site message) (slice_set old site after) messages outcome sets
 delivers old messages site message bytes outcomes.Accepted sets before after sent held found step agrees =
     let of = site_of old messages sets site before agrees found in
-    let known = along_at IsMessageOf messages sets.messages message bytes [] agrees.sent sent in
+    let known = along_at IsMessageOfMap messages sets.messages message bytes [] agrees.sent sent in
     let theirs = read_back bytes.items (puts_at sets.messages message) known.0 step.0 held known.1 known.2 step.1 in
     let more = accepts old messages sets site after (puts_at sets.messages message) agrees (joins_puts before step.0 after (puts_at sets.sites site) (puts_at sets.messages message) of theirs step.2) in
     record {
-      some = (add sets site (puts_at sets.messages message), ((site_there old messages sets site before agrees found, message_there old messages sets message bytes agrees sent), refl));
-      every = λ next h. subst (Agrees (slice_set old site after) messages) (sym h.1) more;
+      some = (add_to_layers sets site (puts_at sets.messages message), ((site_there old messages sets site before agrees found, message_there old messages sets message bytes agrees sent), refl));
+      every = λ next h. subst (MapsAgree (slice_set old site after) messages) (sym h.1) more;
     }
 delivers old messages site message bytes (outcomes.Refused why) sets before after sent held found step agrees =
-    let known = along_at IsMessageOf messages sets.messages message bytes [] agrees.sent sent in
+    let known = along_at IsMessageOfMap messages sets.messages message bytes [] agrees.sent sent in
     refused_happens (events.Deliver site message) old messages site before after why sets
     (site_there old messages sets site before agrees found, message_there old messages sets message bytes agrees sent)
     (only_memory bytes.items (puts_at sets.messages message) known.0 why known.1 known.2 step.1) step.0 found agrees
@@ -252,41 +252,41 @@ delivers old messages site message bytes (outcomes.Sent number) sets before afte
 delivers old messages site message bytes outcomes.NoSuch sets before after sent held found step agrees = absurd step
 
 pub deliver_happens :
-    (old new : List Map) (messages : List (Vec ℕ Global)) (site message : ℕ) (outcome : Outcome) (sets : Sets)
-    → Delivers messages message old site new outcome → Agrees old messages sets → Steps (events.Deliver site message) new messages outcome sets
+    (old new : List Map) (messages : List (Vec ℕ Global)) (site message : ℕ) (outcome : LayersOutcome) (sets : LayerSets)
+    → DeliversMap messages message old site new outcome → MapsAgree old messages sets → StepsMaps (events.Deliver site message) new messages outcome sets
 deliver_happens old new messages site message outcome sets (inl none) agrees =
     nothing_happens (events.Deliver site message) old new messages outcome sets (λ there. message_absent old messages sets message agrees none.0 there.1) none.1 none.2 agrees
 deliver_happens old new messages site message outcome sets (inr some) agrees = delivered some.3
   where
     P : List Map → Type 0
-    P n = Steps (events.Deliver site message) n messages outcome sets
+    P n = StepsMaps (events.Deliver site message) n messages outcome sets
 
-    delivered : HappensAt (Joins some.0.items) old site new outcome → P new
+    delivered : HappensAtMap (Joins some.0.items) old site new outcome → P new
     delivered (inl none) =
         nothing_happens (events.Deliver site message) old new messages outcome sets (λ there. site_absent old messages sets site agrees none.0 there.0) none.1 none.2 agrees
     delivered (inr here) = subst P (sym here.3) (delivers old messages site message some.0 outcome sets here.0 here.1 some.1 some.2 here.2 here.4 agrees)
 
 pub send_happens :
-    (old : List Map) (messages new : List (Vec ℕ Global)) (site : ℕ) (outcome : Outcome) (sets : Sets)
-    → Sends old site messages new outcome → Agrees old messages sets → Steps (events.Send site) old new outcome sets
+    (old : List Map) (messages new : List (Vec ℕ Global)) (site : ℕ) (outcome : LayersOutcome) (sets : LayerSets)
+    → SendsMap old site messages new outcome → MapsAgree old messages sets → StepsMaps (events.Send site) old new outcome sets
 send_happens old messages new site (outcomes.Sent number) sets sent agrees =
     let of = site_of old messages sets site sent.0 agrees sent.2 in
-    let count : number ≡ length sets.messages = sent.4 ∙ length-along IsMessageOf messages sets.messages agrees.sent in
-    let is_sent : IsMessageOf sent.1 (puts_at sets.sites site) = (sent.0, of, sent.3) in
-    let more : Agrees old (messages ++ sent.1 ∷ []) (send sets site) = record {
+    let count : number ≡ length sets.messages = sent.4 ∙ length-along IsMessageOfMap messages sets.messages agrees.sent in
+    let is_sent : IsMessageOfMap sent.1 (puts_at sets.sites site) = (sent.0, of, sent.3) in
+    let more : MapsAgree old (messages ++ sent.1 ∷ []) (send_set sets site) = record {
       sites = agrees.sites;
-      sent = along_push IsMessageOf messages sets.messages sent.1 (puts_at sets.sites site) agrees.sent is_sent;
+      sent = along_push IsMessageOfMap messages sets.messages sent.1 (puts_at sets.sites site) agrees.sent is_sent;
     } in
-    let P : List (Vec ℕ Global) → Type 0 = λ m. Steps (events.Send site) old m (outcomes.Sent number) sets in
+    let P : List (Vec ℕ Global) → Type 0 = λ m. StepsMaps (events.Send site) old m (outcomes.Sent number) sets in
     subst P (sym sent.5) (record {
-      some = (send sets site, (site_there old messages sets site sent.0 agrees sent.2, (count, refl)));
-      every = λ next h. subst (Agrees old (messages ++ sent.1 ∷ [])) (sym h.1.1) more;
+      some = (send_set sets site, (site_there old messages sets site sent.0 agrees sent.2, (count, refl)));
+      every = λ next h. subst (MapsAgree old (messages ++ sent.1 ∷ [])) (sym h.1.1) more;
     })
 send_happens old messages new site (outcomes.Refused why) sets step agrees =
-    let P : List (Vec ℕ Global) → Type 0 = λ m. Steps (events.Send site) old m (outcomes.Refused why) sets in
+    let P : List (Vec ℕ Global) → Type 0 = λ m. StepsMaps (events.Send site) old m (outcomes.Refused why) sets in
     subst P (sym step.2) (stays (events.Send site) old messages why sets (omega (arith, step.0, length-along IsSiteOf old sets.sites agrees.sites)) step.1 agrees)
 send_happens old messages new site outcomes.NoSuch sets step agrees =
-    let P : List (Vec ℕ Global) → Type 0 = λ m. Steps (events.Send site) old m outcomes.NoSuch sets in
+    let P : List (Vec ℕ Global) → Type 0 = λ m. StepsMaps (events.Send site) old m outcomes.NoSuch sets in
     subst P (sym step.1) (nothing_happens (events.Send site) old old messages outcomes.NoSuch sets (site_absent old messages sets site agrees step.0) refl refl agrees)
 send_happens old messages new site outcomes.Accepted sets step agrees = absurd step
 send_happens old messages new site (outcomes.Put revision) sets step agrees = absurd step

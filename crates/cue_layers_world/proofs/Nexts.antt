@@ -5,24 +5,24 @@ use Rattle.cue_policies.specs.declared.kind.LayerKind.{LayerKind}
 use Rattle.cue_layers.specs.declared.layer.Layer.{Layer}
 use Rattle.cue_layers.specs.declared.refusal.LayersRefusal.{LayersRefusal}
 use Rattle.cue_layers.specs.declared.refusal.LayersRefusal.TheVariants as reasons
-use Rattle.cue_layers.specs.Join.{IsPut}
+use Rattle.cue_layers.specs.Join.{IsOnePut}
 use Rattle.cue_layers.specs.Layers.{Key, key, key_of}
-use Rattle.cue_layers.specs.Maps.{IsMapOf, commons_put}
-use Rattle.cue_layers.specs.Puts.{Put, Has, IsAt, IsCurrent, IsNext, IsUsedUp, of_puts, of_layers, last_revision}
+use Rattle.cue_layers.specs.Maps.{IsMapOfPuts, commons_put}
+use Rattle.cue_layers.specs.Puts.{Put, HasElement, IsOfKey, IsCurrent, IsNextRevision, IsUsedUp, of_puts, of_layers, last_revision}
 use Rattle.cue_layers.specs.Refusals as layers
 use Rattle.cue_layers.proofs.Lists.{one_found, one_by, all_at}
-use Rattle.cue_layers_world.specs.Refusals.{IsPutFault, IsPutRefusal}
-use Rattle.cue_layers_world.specs.World.{MayPut}
+use Rattle.cue_layers_world.specs.Refusals.{IsPutEventFault, IsPutEventRefusal}
+use Rattle.cue_layers_world.specs.World.{MayPutEvent}
 
-module _ (puts : List Put) (ls : List Layer) (of : IsMapOf puts ls) (k : Key) where
+module _ (puts : List Put) (ls : List Layer) (of : IsMapOfPuts puts ls) (k : Key) where
   -- the layer of a key has revision 0, or that of a put of the key
-  put_found : (l : Layer) → Has ls l → key_of l ≡ k → (l.revision ≡ 0) ⊎ ((p : Put) × Has puts p × (key p.kind p.name ≡ k) × (p.revision ≡ l.revision))
+  put_found : (l : Layer) → HasElement ls l → key_of l ≡ k → (l.revision ≡ 0) ⊎ ((p : Put) × HasElement puts p × (key p.kind p.name ≡ k) × (p.revision ≡ l.revision))
   put_found l h e =
       let is = all_at (IsCurrent of_puts (commons_put [] ∷ puts)) ls l of.current.each h in
-      let at = one_found (IsAt of_puts l) (commons_put [] ∷ puts) is.revision in
+      let at = one_found (IsOfKey of_puts l) (commons_put [] ∷ puts) is.revision in
       ⊎_elim (λ c. inl (sym at.2.revision ∙ ap (λ (p : Put). p.revision) (sym c))) (λ g. inr (at.0, g, at.2.key ∙ e, at.2.revision)) at.1
 
-  pub next_of : (revision : ℕ) → IsNext of_layers ls k revision → IsNext of_puts puts k revision
+  pub next_of : (revision : ℕ) → IsNextRevision of_layers ls k revision → IsNextRevision of_puts puts k revision
   next_of revision is = record {
     above = λ p h e.
         let found = one_found (λ (l : Layer). key_of l ≡ key p.kind p.name) ls (of.current.all p (inr h)) in
@@ -47,7 +47,7 @@ module _ (puts : List Put) (ls : List Layer) (of : IsMapOf puts ls) (k : Key) wh
       (put_found found.0 found.1 found.2.0)
 
 -- what is put
-pub may_put : (puts : List Put) (old new : List Layer) (kind : LayerKind) (name : List ℕ) (pieces : List Piece) (revision : ℕ) → IsMapOf puts old → IsPut old kind name pieces new revision → MayPut puts kind name pieces revision
+pub may_put : (puts : List Put) (old new : List Layer) (kind : LayerKind) (name : List ℕ) (pieces : List Piece) (revision : ℕ) → IsMapOfPuts puts old → IsOnePut old kind name pieces new revision → MayPutEvent puts kind name pieces revision
 may_put puts old new kind name pieces revision of is = record {
   is_name = is.is_name;
   acceptable = is.acceptable;
@@ -56,7 +56,7 @@ may_put puts old new kind name pieces revision of is = record {
   small = is.small;
 }
 
-put_fault : (puts : List Put) (ls : List Layer) → IsMapOf puts ls → (kind : LayerKind) (name : List ℕ) (pieces : List Piece) (why : LayersRefusal) → layers.IsPutFault ls kind name pieces why → IsPutFault puts kind name pieces why
+put_fault : (puts : List Put) (ls : List Layer) → IsMapOfPuts puts ls → (kind : LayerKind) (name : List ℕ) (pieces : List Piece) (why : LayersRefusal) → layers.IsPutFault ls kind name pieces why → IsPutEventFault puts kind name pieces why
 put_fault puts ls of kind name pieces (reasons.Store why) fault = absurd fault
 put_fault puts ls of kind name pieces (reasons.InPiece index why) fault = fault
 put_fault puts ls of kind name pieces reasons.NotLayers fault = absurd fault
@@ -66,6 +66,6 @@ put_fault puts ls of kind name pieces reasons.RevisionsUsed fault = (fault.0, fa
 put_fault puts ls of kind name pieces reasons.ViewTooLarge fault = absurd fault
 
 -- why a put is refused
-pub put_refusal : (puts : List Put) (ls : List Layer) → IsMapOf puts ls → (kind : LayerKind) (name : List ℕ) (pieces : List Piece) (why : LayersRefusal) → layers.IsPutRefusal ls kind name pieces why → IsPutRefusal puts kind name pieces why
+pub put_refusal : (puts : List Put) (ls : List Layer) → IsMapOfPuts puts ls → (kind : LayerKind) (name : List ℕ) (pieces : List Piece) (why : LayersRefusal) → layers.IsPutRefusal ls kind name pieces why → IsPutEventRefusal puts kind name pieces why
 put_refusal puts ls of kind name pieces why (inl fault) = inl (put_fault puts ls of kind name pieces why fault)
 put_refusal puts ls of kind name pieces why (inr starved) = inr starved

@@ -4,7 +4,7 @@ use Rattle.std.specs.Global.{Global}
 use Rattle.cue_replica.specs.Language.{Table}
 use Rattle.cue_replica.specs.Reports as reports
 use Rattle.cue_layers.specs.Bytes.{layers_bytes}
-use Rattle.cue_layers.specs.Maps.{IsMapOf}
+use Rattle.cue_layers.specs.Maps.{IsMapOfPuts}
 use Rattle.cue_layers.specs.Puts.{Put, SameMembers}
 use Rattle.cue_layers.specs.View.{IsViewOf, IsTooLarge}
 use Rattle.cue_layers.specs.declared.layer.Layer.{Layer}
@@ -12,23 +12,23 @@ use Rattle.cue_layers_world.specs.World.{puts_at}
 
 -- a site has the map of exactly these puts
 abbrev pub IsSiteOf : List Layer → List Put → Type 0
-IsSiteOf layers puts = IsMapOf puts layers
+IsSiteOf layers puts = IsMapOfPuts puts layers
 
 -- a message has the layers bytes of the map of exactly these puts
-abbrev pub IsMessageOf : Vec ℕ Global → List Put → Type 0
-IsMessageOf message puts =
-    (layers : List Layer) × IsMapOf puts layers × (message.items ≡ layers_bytes layers)
+abbrev pub IsMessageOfMap : Vec ℕ Global → List Put → Type 0
+IsMessageOfMap message puts =
+    (layers : List Layer) × IsMapOfPuts puts layers × (message.items ≡ layers_bytes layers)
 
 -- R holds of the maps of each two sites with the same set of puts
-abbrev pub HoldsOfAlike : (List Layer → List Layer → Type 0) → List (List Layer)
+abbrev pub HoldsOfAlikeMaps : (List Layer → List Layer → Type 0) → List (List Layer)
     → List (List Put) → Type 0
-HoldsOfAlike R sites sets =
+HoldsOfAlikeMaps R sites sets =
     (i j : ℕ) (a b : List Layer) → slice_get sites i ≡ Some a → slice_get sites j ≡ Some b
     → SameMembers (puts_at sets i) (puts_at sets j) → R a b
 
 -- sites with the same set of puts have equal maps
-abbrev pub AreEqualSites : List (List Layer) → List (List Put) → Type 0
-AreEqualSites = HoldsOfAlike (λ a b. a ≡ b)
+abbrev pub AreEqualMaps : List (List Layer) → List (List Put) → Type 0
+AreEqualMaps = HoldsOfAlikeMaps (λ a b. a ≡ b)
 
 -- Both maps have the same layers bytes. With one limit both views are too large, or neither is. Both
 -- views are one table, with the same conflicts, the same gaps, the same export, the same printed text
@@ -36,8 +36,8 @@ AreEqualSites = HoldsOfAlike (λ a b. a ≡ b)
 pub record HaveEqualViews (a b : List Layer) : Type 0 where
   pub bytes : layers_bytes a ≡ layers_bytes b
   pub too_large : (limit : ℕ) → IsTooLarge limit a ↔ IsTooLarge limit b
-  pub views : (v w : Table) → IsViewOf a v → IsViewOf b w → (v ≡ w) × reports.AreToldAlike v w
+  pub views : (v w : Table) → IsViewOf a v → IsViewOf b w → (v ≡ w) × reports.HaveEqualReports v w
 
 -- and equal views
 abbrev pub AreSitesOfEqualViews : List (List Layer) → List (List Put) → Type 0
-AreSitesOfEqualViews = HoldsOfAlike HaveEqualViews
+AreSitesOfEqualViews = HoldsOfAlikeMaps HaveEqualViews

@@ -14,4 +14,4 @@ mod world;
 pub use cue_layers::{LayerKind, Layers, LayersRefusal, Memory, Piece, Refusal, Replica, Text};
 pub use history::run;
 pub use laws::{one_set_has_equal_views, one_view_of_a_map, sets_are_reached_once};
-pub use world::{Event, Outcome, World};
+pub use world::{LayersEvent, LayersOutcome, LayersWorld};

@@ -2,13 +2,13 @@
 ghost use Rattle.std.specs.Prelude.{◌≡◌, ◌<◌, ◌↔◌, List, map, IsTrue, IfErr, OnOk, OnErr, vec_len, vec_capacity};
 ghost use Rattle.cue_layers.specs.Bytes.{IsLayersBytes, IsLayersRefusal};
 ghost use Rattle.cue_layers.specs.Maps.{IsJoin};
-ghost use Rattle.cue_layers.specs.Refusals.{piece_of};
+ghost use Rattle.cue_layers.specs.Refusals.{piece_of_refusal};
 ghost use Rattle.cue_layers.specs.declared.layer.Layer.{Layer};
-ghost use Rattle.cue_layers_world.specs.World.{Sets, IsMarked};
-ghost use Rattle.cue_layers_world.specs.Inner.Steps.{HappensAt, Puts, Submits, Takes, Joins, TakesForeign, Sends, Delivers};
-ghost use Rattle.cue_layers_world.specs.Inner.Steps.{Agrees, Steps, KeepsRoom};
+ghost use Rattle.cue_layers_world.specs.World.{LayerSets, IsMarked};
+ghost use Rattle.cue_layers_world.specs.Inner.Steps.{HappensAtMap, PutsLayer, SubmitsToMap, TakesIntoMap, Joins, TakesForeign, SendsMap, DeliversMap};
+ghost use Rattle.cue_layers_world.specs.Inner.Steps.{MapsAgree, StepsMaps, KeepsRoom};
 
-use crate::world::{Event, Outcome};
+use crate::world::{LayersEvent, LayersOutcome};
 use cue_layers::{LayerKind, Layers, LayersRefusal, Piece};
 use std::alloc::Global;
 
@@ -22,41 +22,41 @@ fn put_at(
     kind: LayerKind,
     name: &str,
     pieces: &[Piece],
-) -> Outcome
-    ensures { HappensAt (Puts kind name.now (map piece_of pieces.now)) sites.old site sites.new result }
+) -> LayersOutcome
+    ensures { HappensAtMap (PutsLayer kind name.now (map piece_of_refusal pieces.now)) sites.old site sites.new result }
 {
     if site >= sites.len() {
-        return Outcome::NoSuch;
+        return LayersOutcome::NoSuch;
     }
     match sites[site].put(kind, name, pieces) {
-        Ok(revision) => Outcome::Put(revision),
-        Err(why) => Outcome::Refused(why),
+        Ok(revision) => LayersOutcome::Put(revision),
+        Err(why) => LayersOutcome::Refused(why),
     }
 }
 
 /// Puts a text into the commons of a site.
-fn submit_at(sites: &mut [Layers], site: usize, text: &str) -> Outcome
-    ensures { HappensAt (Submits text.now) sites.old site sites.new result }
+fn submit_at(sites: &mut [Layers], site: usize, text: &str) -> LayersOutcome
+    ensures { HappensAtMap (SubmitsToMap text.now) sites.old site sites.new result }
 {
     if site >= sites.len() {
-        return Outcome::NoSuch;
+        return LayersOutcome::NoSuch;
     }
     match sites[site].submit(text) {
-        Ok(()) => Outcome::Accepted,
-        Err(why) => Outcome::Refused(LayersRefusal::Store(why)),
+        Ok(()) => LayersOutcome::Accepted,
+        Err(why) => LayersOutcome::Refused(LayersRefusal::Store(why)),
     }
 }
 
 /// Puts state bytes into the commons of a site.
-fn take_at(sites: &mut [Layers], site: usize, bytes: &[u8]) -> Outcome
-    ensures { HappensAt (Takes bytes.now) sites.old site sites.new result }
+fn take_at(sites: &mut [Layers], site: usize, bytes: &[u8]) -> LayersOutcome
+    ensures { HappensAtMap (TakesIntoMap bytes.now) sites.old site sites.new result }
 {
     if site >= sites.len() {
-        return Outcome::NoSuch;
+        return LayersOutcome::NoSuch;
     }
     match sites[site].take(bytes) {
-        Ok(()) => Outcome::Accepted,
-        Err(why) => Outcome::Refused(LayersRefusal::Store(why)),
+        Ok(()) => LayersOutcome::Accepted,
+        Err(why) => LayersOutcome::Refused(LayersRefusal::Store(why)),
     }
 }
 
@@ -73,15 +73,15 @@ fn join_bytes(alloc: Global, layers: &mut Layers, bytes: &[u8]) -> Result<(), La
 }
 
 /// Joins the map with these layers bytes to that of a site.
-fn join_at(alloc: Global, sites: &mut [Layers], site: usize, bytes: &[u8]) -> Outcome
-    ensures { HappensAt (Joins bytes.now) sites.old site sites.new result }
+fn join_at(alloc: Global, sites: &mut [Layers], site: usize, bytes: &[u8]) -> LayersOutcome
+    ensures { HappensAtMap (Joins bytes.now) sites.old site sites.new result }
 {
     if site >= sites.len() {
-        return Outcome::NoSuch;
+        return LayersOutcome::NoSuch;
     }
     match join_bytes(alloc, &mut sites[site], bytes) {
-        Ok(()) => Outcome::Accepted,
-        Err(why) => Outcome::Refused(why),
+        Ok(()) => LayersOutcome::Accepted,
+        Err(why) => LayersOutcome::Refused(why),
     }
 }
 
@@ -93,7 +93,7 @@ fn is_marked(bytes: &[u8]) -> bool
 }
 
 /// Hands bytes from outside to a site.
-fn take_foreign(alloc: Global, sites: &mut [Layers], site: usize, bytes: &[u8]) -> Outcome
+fn take_foreign(alloc: Global, sites: &mut [Layers], site: usize, bytes: &[u8]) -> LayersOutcome
     ensures { TakesForeign bytes.now sites.old site sites.new result }
 {
     if is_marked(bytes) {
@@ -104,21 +104,26 @@ fn take_foreign(alloc: Global, sites: &mut [Layers], site: usize, bytes: &[u8]) 
 }
 
 /// Makes the layers bytes of a site's map the next message.
-fn send_from(alloc: Global, sites: &[Layers], site: usize, messages: &mut Vec<Vec<u8>>) -> Outcome
+fn send_from(
+    alloc: Global,
+    sites: &[Layers],
+    site: usize,
+    messages: &mut Vec<Vec<u8>>,
+) -> LayersOutcome
     requires room { vec_len messages.old < vec_capacity messages.old }
-    ensures sends { Sends sites.now site messages.old.items messages.new.items result }
+    ensures sends { SendsMap sites.now site messages.old.items messages.new.items result }
     ensures keeps { KeepsRoom messages.old messages.new }
 {
     if site >= sites.len() {
-        return Outcome::NoSuch;
+        return LayersOutcome::NoSuch;
     }
     let bytes = match sites[site].write(alloc) {
         Ok(bytes) => bytes,
-        Err(memory) => return Outcome::Refused(LayersRefusal::from(memory)),
+        Err(memory) => return LayersOutcome::Refused(LayersRefusal::from(memory)),
     };
     let number = messages.len();
     messages.push(bytes).unwrap();
-    Outcome::Sent(number)
+    LayersOutcome::Sent(number)
 }
 
 /// Joins a message to the map of a site.
@@ -128,11 +133,11 @@ fn deliver_to(
     site: usize,
     messages: &[Vec<u8>],
     message: usize,
-) -> Outcome
-    ensures { Delivers messages.now message sites.old site sites.new result }
+) -> LayersOutcome
+    ensures { DeliversMap messages.now message sites.old site sites.new result }
 {
     if message >= messages.len() {
-        return Outcome::NoSuch;
+        return LayersOutcome::NoSuch;
     }
     join_at(alloc, sites, site, messages[message].as_slice())
 }
@@ -142,23 +147,25 @@ pub fn happen(
     alloc: Global,
     sites: &mut [Layers],
     messages: &mut Vec<Vec<u8>>,
-    event: &Event,
-) -> Outcome
+    event: &LayersEvent,
+) -> LayersOutcome
     requires room { vec_len messages.old < vec_capacity messages.old }
-    ensures steps { (sets : Sets) → Agrees sites.old messages.old.items sets
-        → Steps event.now sites.new messages.new.items result sets }
+    ensures steps { (sets : LayerSets) → MapsAgree sites.old messages.old.items sets
+        → StepsMaps event.now sites.new messages.new.items result sets }
     ensures keeps { KeepsRoom messages.old messages.new }
 {
     match event {
-        Event::Put {
+        LayersEvent::Put {
             site,
             kind,
             name,
             pieces,
         } => put_at(sites, *site, *kind, name.as_str(), pieces.as_slice()),
-        Event::Submit { site, text } => submit_at(sites, *site, text.as_str()),
-        Event::Send { site } => send_from(alloc, sites, *site, messages),
-        Event::Deliver { site, message } => deliver_to(alloc, sites, *site, messages, *message),
-        Event::Foreign { site, bytes } => take_foreign(alloc, sites, *site, bytes.as_slice()),
+        LayersEvent::Submit { site, text } => submit_at(sites, *site, text.as_str()),
+        LayersEvent::Send { site } => send_from(alloc, sites, *site, messages),
+        LayersEvent::Deliver { site, message } => deliver_to(
+            alloc, sites, *site, messages, *message,
+        ),
+        LayersEvent::Foreign { site, bytes } => take_foreign(alloc, sites, *site, bytes.as_slice()),
     }
 }

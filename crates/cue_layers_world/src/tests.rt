@@ -1,4 +1,7 @@
-use crate::{Event, LayerKind, LayersRefusal, Memory, Outcome, Piece, Refusal, Text, World, run};
+use crate::{
+    LayerKind, LayersEvent, LayersOutcome, LayersRefusal, LayersWorld, Memory, Piece, Refusal,
+    Text, run,
+};
 use cue_lattice::Kind;
 use std::alloc::Global;
 use std::test::Fail;
@@ -30,8 +33,8 @@ fn piece(alloc: Global, text: &str) -> Result<Vec<Piece>, Memory> {
 }
 
 /// A put of a layer proper.
-fn put(alloc: Global, site: usize, name: &str, pieces: Vec<Piece>) -> Result<Event, Memory> {
-    Ok(Event::Put {
+fn put(alloc: Global, site: usize, name: &str, pieces: Vec<Piece>) -> Result<LayersEvent, Memory> {
+    Ok(LayersEvent::Put {
         site,
         kind: LayerKind::Layer,
         name: Text::from_str(alloc, name)?,
@@ -40,17 +43,17 @@ fn put(alloc: Global, site: usize, name: &str, pieces: Vec<Piece>) -> Result<Eve
 }
 
 /// The event of a step.
-fn event(alloc: Global, step: Step) -> Result<Event, Memory> {
+fn event(alloc: Global, step: Step) -> Result<LayersEvent, Memory> {
     match step {
         Put(site, name, text) => put(alloc, site, name, piece(alloc, text)?),
         Remove(site, name) => put(alloc, site, name, Vec::new(alloc)),
-        Submit(site, text) => Ok(Event::Submit {
+        Submit(site, text) => Ok(LayersEvent::Submit {
             site,
             text: Text::from_str(alloc, text)?,
         }),
-        Send(site) => Ok(Event::Send { site }),
-        Deliver(site, message) => Ok(Event::Deliver { site, message }),
-        Foreign(site, bytes) => Ok(Event::Foreign {
+        Send(site) => Ok(LayersEvent::Send { site }),
+        Deliver(site, message) => Ok(LayersEvent::Deliver { site, message }),
+        Foreign(site, bytes) => Ok(LayersEvent::Foreign {
             site,
             bytes: bytes.to_vec(alloc)?,
         }),
@@ -58,7 +61,7 @@ fn event(alloc: Global, step: Step) -> Result<Event, Memory> {
 }
 
 /// So many sites after these steps.
-fn after(alloc: Global, count: usize, steps: &[Step]) -> Result<World, Memory> {
+fn after(alloc: Global, count: usize, steps: &[Step]) -> Result<LayersWorld, Memory> {
     let mut events = Vec::new(alloc);
     for step in steps {
         events.push(event(alloc, *step)?)?;
@@ -67,7 +70,12 @@ fn after(alloc: Global, count: usize, steps: &[Step]) -> Result<World, Memory> {
 }
 
 /// Whether the view of a site prints as this text.
-fn prints(alloc: Global, world: &World, site: usize, text: &str) -> Result<bool, LayersRefusal> {
+fn prints(
+    alloc: Global,
+    world: &LayersWorld,
+    site: usize,
+    text: &str,
+) -> Result<bool, LayersRefusal> {
     let Some(layers) = world.sites.get(site) else {
         return Ok(false);
     };
@@ -76,7 +84,7 @@ fn prints(alloc: Global, world: &World, site: usize, text: &str) -> Result<bool,
 }
 
 /// How many conflicts the view of a site has.
-fn conflicts(alloc: Global, world: &World, site: usize) -> Result<usize, LayersRefusal> {
+fn conflicts(alloc: Global, world: &LayersWorld, site: usize) -> Result<usize, LayersRefusal> {
     let Some(layers) = world.sites.get(site) else {
         return Ok(0);
     };
@@ -91,8 +99,8 @@ fn the_next_put_replaces(rt: HostRuntime) -> Result<(), Fail> {
         Put(0, "web", "replicas: 8\n"),
     ];
     let world = after(alloc, 1, &steps)?;
-    assert_eq!(rt; world.outcomes.get(0), Some(&Outcome::Put(1)));
-    assert_eq!(rt; world.outcomes.get(1), Some(&Outcome::Put(2)));
+    assert_eq!(rt; world.outcomes.get(0), Some(&LayersOutcome::Put(1)));
+    assert_eq!(rt; world.outcomes.get(1), Some(&LayersOutcome::Put(2)));
     assert!(rt; prints(alloc, &world, 0, "\"replicas\": 8\n")?);
     Ok(())
 }
@@ -114,8 +122,8 @@ const TIE: &[Step] = &[
 fn a_tie_conflicts_until_the_next_put(rt: HostRuntime) -> Result<(), Fail> {
     let alloc = rt.alloc();
     let world = after(alloc, 2, TIE)?;
-    assert_eq!(rt; world.outcomes.get(3), Some(&Outcome::Put(2)));
-    assert_eq!(rt; world.outcomes.get(4), Some(&Outcome::Put(2)));
+    assert_eq!(rt; world.outcomes.get(3), Some(&LayersOutcome::Put(2)));
+    assert_eq!(rt; world.outcomes.get(4), Some(&LayersOutcome::Put(2)));
     assert_eq!(rt; conflicts(alloc, &world, 0)?, 1);
     assert_eq!(rt; conflicts(alloc, &world, 1)?, 1);
     Ok(())
@@ -136,7 +144,7 @@ fn an_old_message_brings_nothing_back(rt: HostRuntime) -> Result<(), Fail> {
         Deliver(1, 1),
     ];
     let world = after(alloc, 2, &steps)?;
-    assert_eq!(rt; world.outcomes.get(7), Some(&Outcome::Put(3)));
+    assert_eq!(rt; world.outcomes.get(7), Some(&LayersOutcome::Put(3)));
     assert!(rt; prints(alloc, &world, 0, "\"replicas\": 7\n")?);
     assert!(rt; prints(alloc, &world, 1, "_\n")?);
     Ok(())
@@ -181,14 +189,14 @@ fn what_is_not_there_changes_nothing(rt: HostRuntime) -> Result<(), Fail> {
     let alloc = rt.alloc();
     let world = after(alloc, 1, STRAY)?;
     let expected = [
-        Outcome::NoSuch,
-        Outcome::NoSuch,
-        Outcome::Refused(LayersRefusal::BadName(0)),
-        Outcome::Accepted,
-        Outcome::Accepted,
-        Outcome::Refused(LayersRefusal::NotLayers),
-        Outcome::Refused(LayersRefusal::Store(Refusal::at(Kind::Version, 0))),
-        Outcome::Refused(LayersRefusal::Store(Refusal::at(Kind::NotState, 0))),
+        LayersOutcome::NoSuch,
+        LayersOutcome::NoSuch,
+        LayersOutcome::Refused(LayersRefusal::BadName(0)),
+        LayersOutcome::Accepted,
+        LayersOutcome::Accepted,
+        LayersOutcome::Refused(LayersRefusal::NotLayers),
+        LayersOutcome::Refused(LayersRefusal::Store(Refusal::at(Kind::Version, 0))),
+        LayersOutcome::Refused(LayersRefusal::Store(Refusal::at(Kind::NotState, 0))),
     ];
     assert!(rt; world.outcomes.as_slice() == expected.as_slice());
     assert!(rt; prints(alloc, &world, 0, "\"a\": 1\n")?);

@@ -2,7 +2,7 @@ use cue_layers::{LayerKind, Layers, LayersRefusal, Piece, Text};
 
 /// One whole call on one site of a world. Sites and messages are numbered from 0.
 #[derive(Debug, Drop)]
-pub enum Event {
+pub enum LayersEvent {
     /// An owner puts what a name says at the site. Without pieces it is a removal.
     Put {
         site: usize,
@@ -34,7 +34,7 @@ pub enum Event {
 
 /// What an event came to.
 #[derive(Clone, Copy, Debug, PartialEq, Eq)]
-pub enum Outcome {
+pub enum LayersOutcome {
     /// The revision of what was put.
     Put(u64),
     Accepted,
@@ -48,8 +48,8 @@ pub enum Outcome {
 
 /// The maps of sites, the messages that they sent, and what each event came to.
 #[derive(Drop)]
-pub struct World {
+pub struct LayersWorld {
     pub sites: Vec<Layers>,
     pub messages: Vec<Vec<u8>>,
-    pub outcomes: Vec<Outcome>,
+    pub outcomes: Vec<LayersOutcome>,
 }

@@ -9,7 +9,7 @@ use Rattle.cue_lattice.specs.Limits.{word_limit}
 use Rattle.cue_lex.specs.declared.lexeme.Lexeme.{Lexeme}
 use Rattle.cue_lex.specs.declared.lexeme.Lexeme.TheVariants.{Blank, LineBreak, Word}
 use Rattle.cue_lex.specs.declared.token.TokenKind.TheVariants as kinds
-use Rattle.cue_lex.specs.Lexemes.{lexeme, len_of, string, kept, refused, integer, number, is_in_range, name, name_kind, literal_len}
+use Rattle.cue_lex.specs.Lexemes.{lexeme, len_of, string, within_text_limit, lex_refusal, integer, number, is_in_range, lex_name, name_kind, literal_len}
 use Rattle.cue_lex.specs.Strings.{string_text}
 use Rattle.cue_lex.specs.Integers.{literal_number}
 use Rattle.cue_lex.specs.First.{is_first, begins_from, begins_some}
@@ -23,7 +23,7 @@ number_told : (P : Type 0) (minus : Bool) (place len : ℕ) (o : Option ℕ) →
 number_told P minus place len None = λ is. absurd (let e : refusals.BadNumber ≡ refusals.Memory = ap (λ r. r.kind) is in cc)
 number_told P minus place len (Some n) = by (is_in_range minus n)
   where
-    by : (b : Bool) → TellsNoMemory P (if b then Ok (Word (kinds.Integer n) len) else refused refusals.IntRange place)
+    by : (b : Bool) → TellsNoMemory P (if b then Ok (Word (kinds.Integer n) len) else lex_refusal refusals.IntRange place)
     by true = tt
     by false = λ is. absurd (let e : refusals.IntRange ≡ refusals.Memory = ap (λ r. r.kind) is in cc)
 
@@ -31,12 +31,12 @@ pub integer_told : (P : Type 0) (minus : Bool) (place : ℕ) (bytes : List ℕ) 
 unfolding integer
 integer_told P minus place bytes r is = subst (TellsNoMemory P) (sym is) (number_told P minus place (literal_len bytes) (literal_number (take (literal_len bytes) bytes)))
 
-name_by : (P : Type 0) (place : ℕ) (l : Lexeme) (b : Bool) → TellsNoMemory P (if b then Ok l else refused refusals.TextTooLong place)
+name_by : (P : Type 0) (place : ℕ) (l : Lexeme) (b : Bool) → TellsNoMemory P (if b then Ok l else lex_refusal refusals.TextTooLong place)
 name_by P place l true = tt
 name_by P place l false = λ is. absurd (let e : refusals.TextTooLong ≡ refusals.Memory = ap (λ r. r.kind) is in cc)
 
-pub name_told : (P : Type 0) (place len : ℕ) (bytes : List ℕ) (r : Result Lexeme Refusal) → r ≡ name place len bytes → IfErr r (λ e. e ≡ memory → P)
-unfolding name
+pub name_told : (P : Type 0) (place len : ℕ) (bytes : List ℕ) (r : Result Lexeme Refusal) → r ≡ lex_name place len bytes → IfErr r (λ e. e ≡ memory → P)
+unfolding lex_name
 name_told P place len bytes r is = subst (TellsNoMemory P) (sym is) (name_by P place (Word (name_kind (take len bytes)) len) (nat_le len word_limit))
 
 -- bytes that still belong to a lexeme are passed
@@ -52,11 +52,11 @@ begins_at place [] some = absurd (omega arith)
 begins_at place (b ∷ bytes) some = refl
 
 -- a quote begins a string, or what is refused as one
-kept_first : (place : ℕ) (rest : ℕ → Bool) (r : Result (List ℕ × ℕ) Refusal) → is_first 34 (kept place r) rest ≡ true
+kept_first : (place : ℕ) (rest : ℕ → Bool) (r : Result (List ℕ × ℕ) Refusal) → is_first 34 (within_text_limit place r) rest ≡ true
 kept_first place rest (Err e) = refl
 kept_first place rest (Ok (t, end)) = fits (nat_le (length t) word_limit)
   where
-    fits : (b : Bool) → is_first 34 (if b then Ok (Word (kinds.Text t) (end - place)) else refused refusals.TextTooLong place) rest ≡ true
+    fits : (b : Bool) → is_first 34 (if b then Ok (Word (kinds.Text t) (end - place)) else lex_refusal refusals.TextTooLong place) rest ≡ true
     fits true = refl
     fits false = refl
 

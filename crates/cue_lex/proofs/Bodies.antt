@@ -9,8 +9,8 @@ use Rattle.std.proofs.lemmas.List.{append-nil}
 use Rattle.std.proofs.lemmas.Str.{inside_one, length-encode, drop_past_char, IsCharBoundary-after_ascii}
 use Rattle.cue_lattice.specs.declared.refusal.Refusal.{Refusal}
 use Rattle.cue_lattice.specs.Limits.{word_limit}
-use Rattle.cue_lex.specs.Strings.{body, with_front, with_escape, bad_string, escape}
-use Rattle.cue_lex.specs.Lexemes.{kept, EndsAscii}
+use Rattle.cue_lex.specs.Strings.{body, with_front, with_escape, bad_string, escape_sequence}
+use Rattle.cue_lex.specs.Lexemes.{within_text_limit, EndsAscii}
 
 -- no bytes in front change nothing
 pub with_front-nil : (r : Result (List ℕ × ℕ) Refusal) → with_front [] r ≡ r
@@ -73,7 +73,7 @@ char_element text rest c width split is_width raw start place =
     body-char start place c text rest split raw ∙ rw (size, left) refl
 
 -- the character of an escape comes before what the bytes after the escape stand for
-pub escape_element : (text : List ℕ) (c width : ℕ) → 0 < length text → get_or text 0 0 ≡ 92 → escape (drop 1 text) ≡ Some (c, width) → width ≤ length (drop 1 text) → (start place : ℕ) → body start 0 place text ≡ with_front (encode_utf8 c) (body start 0 (place + (1 + width)) (drop (1 + width) text))
+pub escape_element : (text : List ℕ) (c width : ℕ) → 0 < length text → get_or text 0 0 ≡ 92 → escape_sequence (drop 1 text) ≡ Some (c, width) → width ≤ length (drop 1 text) → (start place : ℕ) → body start 0 place text ≡ with_front (encode_utf8 c) (body start 0 (place + (1 + width)) (drop (1 + width) text))
 escape_element [] c width some is_backslash found within start place = absurd (omega arith)
 escape_element (b ∷ bytes) c width some is_backslash found within start place =
     let e : place + 1 + width ≡ place + (1 + width) = omega arith in
@@ -85,7 +85,7 @@ escape_element (b ∷ bytes) c width some is_backslash found within start place 
     ∙ ap (λ n. with_front (encode_utf8 c) (body start 0 (place + (1 + width)) (drop n (b ∷ bytes)))) d
 
 -- a backslash with no escape makes the string a bad one at its place
-pub bad_element : (text : List ℕ) → 0 < length text → get_or text 0 0 ≡ 92 → escape (drop 1 text) ≡ None → (start place : ℕ) → body start 0 place text ≡ Err (bad_string place)
+pub bad_element : (text : List ℕ) → 0 < length text → get_or text 0 0 ≡ 92 → escape_sequence (drop 1 text) ≡ None → (start place : ℕ) → body start 0 place text ≡ Err (bad_string place)
 bad_element [] some is_backslash none start place = absurd (omega arith)
 bad_element (b ∷ bytes) some is_backslash none start place =
     ap (λ x. body start 0 place (x ∷ bytes)) is_backslash
@@ -110,10 +110,10 @@ body_begins start text = record {
   meant = sym (with_front-nil _ ∙ ap (λ n. body start 0 n text) (add-zero (start + 1)));
 }
 
-kept-same : (start : ℕ) (decoded whole : List ℕ) (end : ℕ) → (decoded ≡ whole) ⊎ ((word_limit < length decoded) × (word_limit < length whole)) → kept start (Ok (whole, end)) ≡ kept start (Ok (decoded, end))
-kept-same start decoded whole end same =
+within_text_limit-same : (start : ℕ) (decoded whole : List ℕ) (end : ℕ) → (decoded ≡ whole) ⊎ ((word_limit < length decoded) × (word_limit < length whole)) → within_text_limit start (Ok (whole, end)) ≡ within_text_limit start (Ok (decoded, end))
+within_text_limit-same start decoded whole end same =
     ⊎_elim
-    (λ e. ap (λ text. kept start (Ok (text, end))) (sym e))
+    (λ e. ap (λ text. within_text_limit start (Ok (text, end))) (sym e))
     (λ long.
     let no_whole = lt-leb (length whole) word_limit long.1 in
     let no_decoded = lt-leb (length decoded) word_limit long.0 in
@@ -165,11 +165,11 @@ module _ {start : ℕ} {text decoded : List ℕ} {len : ℕ} {rest : List ℕ} (
         meant = so_far.meant ∙ ap (with_front so_far.whole) (element start (start + 1 + len)) ∙ with_front-append so_far.whole (encode_utf8 c) _ ∙ ap (λ n. with_front (so_far.whole ++ encode_utf8 c) (body start 0 n (drop width rest))) e;
       }
 
-  pub body_closes : 0 < length rest → get_or rest 0 0 ≡ 34 → kept start (body start 0 (start + 1) text) ≡ kept start (Ok (decoded, start + 1 + (len + 1)))
+  pub body_closes : 0 < length rest → get_or rest 0 0 ≡ 34 → within_text_limit start (body start 0 (start + 1) text) ≡ within_text_limit start (Ok (decoded, start + 1 + (len + 1)))
   body_closes some quote =
       let e : start + 1 + len + 1 ≡ start + 1 + (len + 1) = omega arith in
-      ap (kept start) (so_far.meant ∙ ap (with_front so_far.whole) (body-close start (start + 1 + len) rest some quote) ∙ ap (λ xs. Ok (xs, start + 1 + len + 1)) (append-nil so_far.whole) ∙ ap (λ n. Ok (so_far.whole, n)) e)
-      ∙ kept-same start decoded so_far.whole (start + 1 + (len + 1)) so_far.same
+      ap (within_text_limit start) (so_far.meant ∙ ap (with_front so_far.whole) (body-close start (start + 1 + len) rest some quote) ∙ ap (λ xs. Ok (xs, start + 1 + len + 1)) (append-nil so_far.whole) ∙ ap (λ n. Ok (so_far.whole, n)) e)
+      ∙ within_text_limit-same start decoded so_far.whole (start + 1 + (len + 1)) so_far.same
 
   pub body_fails : (refusal : Refusal) → body start 0 (start + 1 + len) rest ≡ Err refusal → body start 0 (start + 1) text ≡ Err refusal
   body_fails refusal fault = so_far.meant ∙ ap (with_front so_far.whole) fault

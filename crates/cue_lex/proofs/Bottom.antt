@@ -10,7 +10,7 @@ use Rattle.cue_lex.specs.declared.token.TokenKind.TheVariants as kinds
 use Rattle.cue_lex.specs.declared.lexeme.Lexeme.TheVariants.{Word}
 use Rattle.cue_lex.specs.Characters.{is_letter, is_name_part}
 use Rattle.cue_lex.specs.Lexemes.{lexeme}
-use Rattle.cue_lex.specs.Names.{IsIdentifier}
+use Rattle.cue_lex.specs.Names.{IsIdentifierText}
 use Rattle.cue_lex.specs.Longest.{TakesBottomBeforeNames}
 use Rattle.std.specs.Prelude.{Ok}
 
@@ -46,7 +46,7 @@ short_word bytes front more letter parts split spells all =
     let size = ap length whole in
     omega arith
 
-short_identifier : (bytes front more : List ℕ) → IsIdentifier front → 95 ∷ 124 ∷ bytes ≡ front ++ more → length front < 3
+short_identifier : (bytes front more : List ℕ) → IsIdentifierText front → 95 ∷ 124 ∷ bytes ≡ front ++ more → length front < 3
 short_identifier bytes front more is split =
     let word = encode_utf8_all (is.letter ∷ is.parts) in
     ⊎_elim

@@ -18,8 +18,8 @@ use Rattle.cue_lex.specs.declared.lexeme.Lexeme.{Lexeme}
 use Rattle.cue_lex.specs.declared.lexeme.Lexeme.TheVariants.{Word}
 use Rattle.cue_lex.specs.Characters.{is_letter, is_name_part}
 use Rattle.cue_lex.specs.Names.{run_len, word_len, signed_len, identifier_len}
-use Rattle.cue_lex.specs.Marks.{single_marks, first_of, single_mark, first_mark, mark}
-use Rattle.cue_lex.specs.Lexemes.{Gives, lexeme, len_of, name, punctuation, is_space}
+use Rattle.cue_lex.specs.Marks.{single_marks, first_mark_of, single_mark, first_mark, mark_in_front}
+use Rattle.cue_lex.specs.Lexemes.{LexesTo, lexeme, len_of, lex_name, punctuation, is_space}
 use Rattle.cue_lex.proofs.Ascii.{letter_ascii}
 use Rattle.cue_lex.proofs.Fronts.{literal_ascii}
 use Rattle.cue_lex.proofs.Longest.{part-letter}
@@ -87,7 +87,7 @@ module _ (b : ℕ) (bytes : List ℕ) (utf8 : IsUtf8 (b ∷ bytes)) (below : b <
   run_len-some part = let run = run_len-part (b ∷ bytes) bytes b utf8 one part in let size = length-encode b in let width = len_utf8_ascii b below in omega arith
 
   pub lexeme-is : (minus : Bool) (place : ℕ) → Plain b → lexeme minus place (b ∷ bytes)
-      ≡ (if nat_lt 0 (identifier_len (b ∷ bytes)) then name place (identifier_len (b ∷ bytes)) (b ∷ bytes) else punctuation place (mark (b ∷ bytes)))
+      ≡ (if nat_lt 0 (identifier_len (b ∷ bytes)) then lex_name place (identifier_len (b ∷ bytes)) (b ∷ bytes) else punctuation place (mark_in_front (b ∷ bytes)))
   unfolding lexeme
   lexeme-is minus place front = rw (front.space, front.break, front.quote, front.digit, front.slash, front.underscore) refl
 
@@ -115,7 +115,7 @@ module _ (b : ℕ) (bytes : List ℕ) (utf8 : IsUtf8 (b ∷ bytes)) (is : is_asc
   letter_run : 0 < run_len (b ∷ bytes)
   letter_run = run_len-some b bytes utf8 below (part-letter b letter)
 
-  letter_lexeme : (minus : Bool) (place : ℕ) → lexeme minus place (b ∷ bytes) ≡ name place (run_len (b ∷ bytes)) (b ∷ bytes)
+  letter_lexeme : (minus : Bool) (place : ℕ) → lexeme minus place (b ∷ bytes) ≡ lex_name place (run_len (b ∷ bytes)) (b ∷ bytes)
   letter_lexeme minus place =
       let front = plain b (letter_plain b below is) in
       let len : identifier_len (b ∷ bytes) ≡ run_len (b ∷ bytes) = identifier_len-is b bytes utf8 below front ∙ word_len-is b bytes utf8 below true letter in
@@ -129,7 +129,7 @@ run_letter (b ∷ bytes) utf8 some is = letter_run b bytes utf8 is
 
 -- where a letter of ASCII stands a name does
 pub lexeme_letter : (minus : Bool) (place : ℕ) (bytes : List ℕ) → IsUtf8 bytes → 0 < length bytes → is_ascii_alphabetic (get_or bytes 0 0) ≡ true
-    → lexeme minus place bytes ≡ name place (run_len bytes) bytes
+    → lexeme minus place bytes ≡ lex_name place (run_len bytes) bytes
 lexeme_letter minus place [] utf8 some is = absurd (omega arith)
 lexeme_letter minus place (b ∷ bytes) utf8 some is = letter_lexeme b bytes utf8 is minus place
 
@@ -138,12 +138,12 @@ mark_fronts : AllByRecursion (λ m. is_mark_front m.0 ≡ true) single_marks
 mark_fronts = (refl, (refl, (refl, (refl, (refl, (refl, (refl, (refl, (refl, (refl, (refl, (refl, (refl, (refl, (refl, (refl, (refl, tt)))))))))))))))))
 
 first_step : (b : ℕ) (m : ℕ × Punctuation) (ms : List (ℕ × Punctuation)) (kind : Punctuation) (equal : Bool) → nat_eq b m.0 ≡ equal
-    → is_mark_front m.0 ≡ true → (first_of b ms ≡ Some kind → is_mark_front b ≡ true)
-    → (if equal then Some m.1 else first_of b ms) ≡ Some kind → is_mark_front b ≡ true
+    → is_mark_front m.0 ≡ true → (first_mark_of b ms ≡ Some kind → is_mark_front b ≡ true)
+    → (if equal then Some m.1 else first_mark_of b ms) ≡ Some kind → is_mark_front b ≡ true
 first_step b m ms kind true is here more found = subst (λ n. is_mark_front n ≡ true) (sym (eqb-true b m.0 is)) here
 first_step b m ms kind false is here more found = more found
 
-first_front : (b : ℕ) (ms : List (ℕ × Punctuation)) (kind : Punctuation) → AllByRecursion (λ m. is_mark_front m.0 ≡ true) ms → first_of b ms ≡ Some kind → is_mark_front b ≡ true
+first_front : (b : ℕ) (ms : List (ℕ × Punctuation)) (kind : Punctuation) → AllByRecursion (λ m. is_mark_front m.0 ≡ true) ms → first_mark_of b ms ≡ Some kind → is_mark_front b ≡ true
 first_front b [] kind all found = search rules
 first_front b (m ∷ ms) kind all found = first_step b m ms kind (nat_eq b m.0) refl all.0 (first_front b ms kind all.1) found
 
@@ -151,7 +151,7 @@ first_front b (m ∷ ms) kind all found = first_step b m ms kind (nat_eq b m.0) 
 longer_front : (first b : ℕ) (more bytes : List ℕ) → is_mark_front first ≡ true → starts_with nat_eq (b ∷ bytes) (first ∷ more) ≡ true → is_mark_front b ≡ true
 longer_front first b more bytes here starts = subst (λ n. is_mark_front n ≡ true) (eqb-true first b (and_parts (nat_eq first b) _ starts).0) here
 
-single_front : (b : ℕ) (kind : Option Punctuation) (found : Punctuation × ℕ) → first_of b single_marks ≡ kind → option_map (λ k. (k, 1)) kind ≡ Some found → is_mark_front b ≡ true
+single_front : (b : ℕ) (kind : Option Punctuation) (found : Punctuation × ℕ) → first_mark_of b single_marks ≡ kind → option_map (λ k. (k, 1)) kind ≡ Some found → is_mark_front b ≡ true
 single_front b None found is none = search rules
 single_front b (Some kind) found is some = first_front b single_marks kind mark_fronts is
 
@@ -169,20 +169,20 @@ mark_front b bytes found true less greater other i3 il ig io is = longer_front 4
 mark_front b bytes found false true greater other i3 il ig io is = longer_front 60 b (codes "=") bytes refl il
 mark_front b bytes found false false true other i3 il ig io is = longer_front 62 b (codes "=") bytes refl ig
 mark_front b bytes found false false false true i3 il ig io is = longer_front 33 b (codes "=") bytes refl io
-mark_front b bytes found false false false false i3 il ig io is = single_front b (first_of b single_marks) found refl is
+mark_front b bytes found false false false false i3 il ig io is = single_front b (first_mark_of b single_marks) found refl is
 
-found_front : (b : ℕ) (bytes : List ℕ) (found : Punctuation × ℕ) → mark (b ∷ bytes) ≡ Some found → is_mark_front b ≡ true
-unfolding mark
+found_front : (b : ℕ) (bytes : List ℕ) (found : Punctuation × ℕ) → mark_in_front (b ∷ bytes) ≡ Some found → is_mark_front b ≡ true
+unfolding mark_in_front
 found_front b bytes found is =
     mark_front b bytes found (starts_with nat_eq (b ∷ bytes) (codes "...")) (starts_with nat_eq (b ∷ bytes) (codes "<="))
     (starts_with nat_eq (b ∷ bytes) (codes ">=")) (starts_with nat_eq (b ∷ bytes) (codes "!=")) refl refl refl refl is
 
-no_mark : (found : Punctuation × ℕ) → mark [] ≡ Some found → ⊥
-unfolding mark
+no_mark : (found : Punctuation × ℕ) → mark_in_front [] ≡ Some found → ⊥
+unfolding mark_in_front
 no_mark found is = search rules
 
 -- where a mark stands nothing else does
-pub lexeme_mark : (minus : Bool) (place : ℕ) (bytes : List ℕ) (kind : Punctuation) (len : ℕ) → IsUtf8 bytes → mark bytes ≡ Some (kind, len)
+pub lexeme_mark : (minus : Bool) (place : ℕ) (bytes : List ℕ) (kind : Punctuation) (len : ℕ) → IsUtf8 bytes → mark_in_front bytes ≡ Some (kind, len)
     → lexeme minus place bytes ≡ Ok (Word (kinds.Mark kind) len)
 lexeme_mark minus place [] kind len utf8 is = absurd (no_mark (kind, len) is)
 lexeme_mark minus place (b ∷ bytes) kind len utf8 is =
@@ -194,7 +194,7 @@ lexeme_mark minus place (b ∷ bytes) kind len utf8 is =
     lexeme-is b bytes utf8 ascii minus place front ∙ rw (none_there, is) refl
 
 -- a result that is the defined one is what the definition gives
-pub gives_same : (result defined : Result Lexeme Refusal) → defined ≡ result → Gives result defined
+pub gives_same : (result defined : Result Lexeme Refusal) → defined ≡ result → LexesTo result defined
 gives_same (Ok found) defined is = is
 gives_same (Err refusal) defined is = λ _. is
 

@@ -10,7 +10,7 @@ use Rattle.std.proofs.lemmas.Str.{chars-append, chars-encodes, encodes-append, e
 use Rattle.std.specs.Char.{IsScalar}
 use Rattle.std.proofs.Math.Seq.{take-append_seam}
 use Rattle.cue_lex.specs.Characters.{is_letter, is_name_part}
-use Rattle.cue_lex.specs.Names.{run_len, word_len, signed_len, identifier_len, IsIdentifier}
+use Rattle.cue_lex.specs.Names.{run_len, word_len, signed_len, identifier_len, IsIdentifierText}
 use Rattle.cue_lex.specs.Longest.{TakesTheLongestIdentifier}
 
 -- a letter may stand within a name too
@@ -68,7 +68,7 @@ unfolding signed_len
 signed_len-two rest some = let yes = lt-ltb 0 (word_len rest) some in rw yes refl
 
 -- no identifier at the front is longer than the one that is taken
-pub identifier_longest : (bytes front rest : List ℕ) → IsIdentifier front → bytes ≡ front ++ rest → length front ≤ identifier_len bytes
+pub identifier_longest : (bytes front rest : List ℕ) → IsIdentifierText front → bytes ≡ front ++ rest → length front ≤ identifier_len bytes
 unfolding identifier_len
 identifier_longest bytes front rest is split =
     let word = encode_utf8_all (is.letter ∷ is.parts) in
@@ -162,7 +162,7 @@ is_word bytes utf8 some = word_cases bytes (chars bytes) (sym (encodes-chars byt
 -- a sign and a word after it are an identifier
 record IsTaken (bytes : List ℕ) (len : ℕ) : Type 0 where
   pub within : len ≤ length bytes
-  pub is : IsIdentifier (take len bytes)
+  pub is : IsIdentifierText (take len bytes)
 
 taken_word : (sign bytes : List ℕ) → (sign ≡ []) ⊎ ((sign ≡ codes "#") ⊎ (sign ≡ codes "_#")) → (rest : List ℕ) → bytes ≡ sign ++ rest → IsUtf8 rest → 0 < word_len rest → IsTaken bytes (length sign + word_len rest)
 taken_word sign bytes one rest split utf8 some =

@@ -7,7 +7,7 @@ use Rattle.std.proofs.lemmas.Bool.{eqb-true, eq-eqb}
 use Rattle.cue_lattice.specs.OneOf.{OneOf}
 use Rattle.cue_lex.specs.declared.punctuation.Punctuation.{Punctuation}
 use Rattle.cue_lex.specs.declared.punctuation.Punctuation.TheVariants as points
-use Rattle.cue_lex.specs.Marks.{single_marks, longer_marks, marks, first_of, single_mark, first_mark, mark, IsLongest, BeginsWithNone, TakesTheLongest}
+use Rattle.cue_lex.specs.Marks.{single_marks, longer_marks, marks, first_mark_of, single_mark, first_mark, mark_in_front, IsLongest, BeginsWithNone, TakesTheLongest}
 
 abbrev as_row : ℕ × Punctuation → List ℕ × Punctuation
 as_row m = (m.0 ∷ [], m.1)
@@ -35,23 +35,23 @@ some_same same = search rules
 
 -- a mark found is one of the list, and its byte is the first
 first_step : (b : ℕ) (m : ℕ × Punctuation) (ms : List (ℕ × Punctuation)) (kind : Punctuation) (equal : Bool) → nat_eq b m.0 ≡ equal
-    → (first_of b ms ≡ Some kind → OneOf (λ m. m ≡ (b ∷ [], kind)) (map as_row ms))
-    → (if equal then Some m.1 else first_of b ms) ≡ Some kind → OneOf (λ m. m ≡ (b ∷ [], kind)) (map as_row (m ∷ ms))
+    → (first_mark_of b ms ≡ Some kind → OneOf (λ m. m ≡ (b ∷ [], kind)) (map as_row ms))
+    → (if equal then Some m.1 else first_mark_of b ms) ≡ Some kind → OneOf (λ m. m ≡ (b ∷ [], kind)) (map as_row (m ∷ ms))
 first_step b m ms kind true is more found = inl (rw (eqb-true b m.0 is, some_same found) refl)
 first_step b m ms kind false is more found = inr (more found)
 
-first_some : (b : ℕ) (ms : List (ℕ × Punctuation)) (kind : Punctuation) → first_of b ms ≡ Some kind → OneOf (λ m. m ≡ (b ∷ [], kind)) (map as_row ms)
+first_some : (b : ℕ) (ms : List (ℕ × Punctuation)) (kind : Punctuation) → first_mark_of b ms ≡ Some kind → OneOf (λ m. m ≡ (b ∷ [], kind)) (map as_row ms)
 first_some b [] kind found = search rules
 first_some b (m ∷ ms) kind found = first_step b m ms kind (nat_eq b m.0) refl (first_some b ms kind) found
 
 -- where none is found, the text begins with none
 none_step : (b : ℕ) (bs : List ℕ) (m : ℕ × Punctuation) (ms : List (ℕ × Punctuation)) (equal : Bool) → nat_eq b m.0 ≡ equal
-    → (first_of b ms ≡ None → AllByRecursion (λ m. starts_with nat_eq (b ∷ bs) m.0 ≡ false) (map as_row ms))
-    → (if equal then Some m.1 else first_of b ms) ≡ None → AllByRecursion (λ m. starts_with nat_eq (b ∷ bs) m.0 ≡ false) (map as_row (m ∷ ms))
+    → (first_mark_of b ms ≡ None → AllByRecursion (λ m. starts_with nat_eq (b ∷ bs) m.0 ≡ false) (map as_row ms))
+    → (if equal then Some m.1 else first_mark_of b ms) ≡ None → AllByRecursion (λ m. starts_with nat_eq (b ∷ bs) m.0 ≡ false) (map as_row (m ∷ ms))
 none_step b bs m ms true is more found = search rules
 none_step b bs m ms false is more found = (single_starts b bs m.0 false is, more found)
 
-first_none : (b : ℕ) (bs : List ℕ) (ms : List (ℕ × Punctuation)) → first_of b ms ≡ None → AllByRecursion (λ m. starts_with nat_eq (b ∷ bs) m.0 ≡ false) (map as_row ms)
+first_none : (b : ℕ) (bs : List ℕ) (ms : List (ℕ × Punctuation)) → first_mark_of b ms ≡ None → AllByRecursion (λ m. starts_with nat_eq (b ∷ bs) m.0 ≡ false) (map as_row ms)
 first_none b bs [] found = tt
 first_none b bs (m ∷ ms) found = none_step b bs m ms (nat_eq b m.0) refl (first_none b bs ms) found
 
@@ -61,7 +61,7 @@ later P [] xs one = one
 later P (x ∷ front) xs one = inr (later P front xs one)
 
 -- after the longer marks, none of which stands at the front
-single_case : (b : ℕ) (bs : List ℕ) → (found : Option Punctuation) → first_of b single_marks ≡ found
+single_case : (b : ℕ) (bs : List ℕ) → (found : Option Punctuation) → first_mark_of b single_marks ≡ found
     → starts_with nat_eq (b ∷ bs) (codes "...") ≡ false → starts_with nat_eq (b ∷ bs) (codes "<=") ≡ false
     → starts_with nat_eq (b ∷ bs) (codes ">=") ≡ false → starts_with nat_eq (b ∷ bs) (codes "!=") ≡ false
     → MatchOption (option_map (λ kind. (kind, 1)) found) (BeginsWithNone (b ∷ bs)) (IsLongest (b ∷ bs))
@@ -106,9 +106,9 @@ found_case bytes false true greater other i3 il ig io = longer_case bytes (codes
 found_case bytes false false true other i3 il ig io = longer_case bytes (codes ">=") points.AtLeast (inr (inr (inl refl))) ig (omega arith) (λ w. absurd (false_true i3 w)) (λ _. omega arith) (λ _. omega arith) (λ _. omega arith)
 found_case bytes false false false true i3 il ig io = longer_case bytes (codes "!=") points.NotEqual (inr (inr (inr (inl refl)))) io (omega arith) (λ w. absurd (false_true i3 w)) (λ _. omega arith) (λ _. omega arith) (λ _. omega arith)
 found_case [] false false false false i3 il ig io = search rules
-found_case (b ∷ bs) false false false false i3 il ig io = single_case b bs (first_of b single_marks) refl i3 il ig io
+found_case (b ∷ bs) false false false false i3 il ig io = single_case b bs (first_mark_of b single_marks) refl i3 il ig io
 
 -- the longest mark is taken
 pub takes_the_longest : TakesTheLongest
-unfolding mark
+unfolding mark_in_front
 takes_the_longest bytes = found_case bytes (starts_with nat_eq bytes (codes "...")) (starts_with nat_eq bytes (codes "<=")) (starts_with nat_eq bytes (codes ">=")) (starts_with nat_eq bytes (codes "!=")) refl refl refl refl

@@ -28,21 +28,21 @@ longer_marks =
 abbrev pub marks : List (List ℕ × Punctuation)
 marks = longer_marks ++ map (λ m. (m.0 ∷ [], m.1)) single_marks
 
-abbrev pub first_of : ℕ → List (ℕ × Punctuation) → Option Punctuation
-first_of b [] = None
-first_of b (m ∷ ms) = if b == m.0 then Some m.1 else first_of b ms
+abbrev pub first_mark_of : ℕ → List (ℕ × Punctuation) → Option Punctuation
+first_mark_of b [] = None
+first_mark_of b (m ∷ ms) = if b == m.0 then Some m.1 else first_mark_of b ms
 
 -- the mark that one byte is
 unfoldable pub single_mark : ℕ → Option Punctuation
-single_mark b = first_of b single_marks
+single_mark b = first_mark_of b single_marks
 
 abbrev pub first_mark : List ℕ → Option (Punctuation × ℕ)
 first_mark [] = None
 first_mark (b ∷ bytes) = option_map (λ kind. (kind, 1)) (single_mark b)
 
 -- the longest mark at the front, and how many bytes it has
-unfoldable pub mark : List ℕ → Option (Punctuation × ℕ)
-mark bytes =
+unfoldable pub mark_in_front : List ℕ → Option (Punctuation × ℕ)
+mark_in_front bytes =
     if starts_with nat_eq bytes (codes "...") then Some (points.Ellipsis, 3)
     else (if starts_with nat_eq bytes (codes "<=") then Some (points.AtMost, 2)
     else (if starts_with nat_eq bytes (codes ">=") then Some (points.AtLeast, 2)
@@ -64,4 +64,4 @@ BeginsWithNone bytes = AllByRecursion (λ m. starts_with nat_eq bytes m.0 ≡ fa
 -- of all the marks that stand at the front the longest is taken
 abbrev pub TakesTheLongest : Type 0
 TakesTheLongest =
-    (bytes : List ℕ) → MatchOption (mark bytes) (BeginsWithNone bytes) (IsLongest bytes)
+    (bytes : List ℕ) → MatchOption (mark_in_front bytes) (BeginsWithNone bytes) (IsLongest bytes)

@@ -30,7 +30,7 @@ identifier_len bytes =
     max (max (word_len bytes) (signed_len (codes "#") bytes)) (signed_len (codes "_#") bytes)
 
 -- an identifier, as the language has it: optionally # or _#, then a letter, then letters and digits
-pub record IsIdentifier (spelled : List ℕ) : Type 0 where
+pub record IsIdentifierText (spelled : List ℕ) : Type 0 where
   pub sign : List ℕ
   pub letter : ℕ
   pub parts : List ℕ

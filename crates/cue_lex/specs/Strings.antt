@@ -82,9 +82,9 @@ short_escape bytes = do
 
 -- the character of an escape whose backslash stands before the bytes, and how many bytes stand
 -- after the backslash
-unfoldable pub escape : List ℕ → Option (ℕ × ℕ)
-escape [] = None
-escape (b ∷ bytes) =
+unfoldable pub escape_sequence : List ℕ → Option (ℕ × ℕ)
+escape_sequence [] = None
+escape_sequence (b ∷ bytes) =
     if b == 117 then short_escape bytes
     else (if b == 85 then option_map (λ c. (c, 9)) (option_and_then character (eight_digits bytes))
     else option_map (λ c. (c, 1)) (simple_escape b))
@@ -114,7 +114,7 @@ body start zero place (b ∷ bytes) =
     if b == 34 then Ok ([], place + 1)
     else (if b == 10 then Err (bad_string start)
     else (if b == 92
-    then with_escape place (escape bytes) (λ width. body start width (place + 1) bytes)
+    then with_escape place (escape_sequence bytes) (λ width. body start width (place + 1) bytes)
     else with_front (b ∷ []) (body start zero (place + 1) bytes)))
 
 -- the text of the string that opens at a place, its opening quote in front of the bytes, and where

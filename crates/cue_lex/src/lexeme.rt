@@ -3,7 +3,7 @@ ghost use Rattle.std.specs.Prelude.{slice_index};
 ghost use Rattle.std.specs.List.{prefix_len};
 ghost use Rattle.std.specs.Str.{IsCharBoundary};
 ghost use Rattle.cue_lattice.specs.Refusal.{memory};
-ghost use Rattle.cue_lex.specs.Lexemes.{Gives, lexeme, len_of};
+ghost use Rattle.cue_lex.specs.Lexemes.{LexesTo, lexeme, len_of};
 
 use crate::TokenKind;
 use crate::integer::integer;
@@ -46,7 +46,7 @@ pub fn lexeme_at<'a>(
 ) -> Result<Lexeme<'a>, Refusal>
     requires nonempty { 0 < length text.now }
     requires room { at + length text.now < 2 ^ 63 }
-    ensures gives { Gives result (lexeme after_minus at text.now) }
+    ensures gives { LexesTo result (lexeme after_minus at text.now) }
     ensures some { IfOk result (λ found. 0 < len_of found) }
     ensures boundary { IfOk result (λ found. IsCharBoundary text.now (len_of found)) }
     // Only a string wants memory.

@@ -2,8 +2,8 @@ ghost use Rattle.std.specs.Prelude.{◌≡◌, ◌≢◌, ◌≤◌, ◌<◌, �
 ghost use Rattle.std.specs.Prelude.{length, IfOk, IfErr, Ok, Err, None};
 ghost use Rattle.cue_lattice.specs.Limits.{text_limit};
 ghost use Rattle.cue_lattice.specs.Refusal.{memory};
-ghost use Rattle.cue_lex.specs.Tokens.{tokens, too_long, Piece, at_place, commas};
-ghost use Rattle.cue_lex.specs.Inner.Tokens.{prepended};
+ghost use Rattle.cue_lex.specs.Tokens.{tokens, text_too_long, LexedPiece, at_place, commas};
+ghost use Rattle.cue_lex.specs.Inner.Tokens.{prepend_tokens};
 ghost use Rattle.cue_lex.specs.First.{begins_some};
 ghost use Rattle.cue_lex.specs.Inner.First.{IsBlank};
 ghost use Rattle.cue_lex.specs.Lexemes.{len_of};
@@ -33,7 +33,7 @@ pub fn lex<'a>(alloc: Global, text: &'a str) -> Result<Vec<Token<'a>>, Refusal>
     // A refusal is the text's first fault, unless memory ran out.
     ensures refused { IfErr result (λ refusal. refusal ≢ memory → tokens text.now ≡ Err refusal) }
     // What is found before any memory is wanted is always told.
-    ensures long { IfErr result (λ refusal. text_limit < length text.now → refusal ≡ too_long) }
+    ensures long { IfErr result (λ refusal. text_limit < length text.now → refusal ≡ text_too_long) }
     ensures begins { IfErr result (λ refusal. refusal ≡ memory → begins_some text.now ≡ true) }
 {
     if text.len() > TEXT_LIMIT {
@@ -84,10 +84,10 @@ fn add<'a>(
 ) -> Result<Before, Memory>
     requires { at + len_of found ≤ text_limit }
     // The tokens and what they say of what follows give the same tokens in all, whatever follows.
-    ensures adds { IfOk result (λ after. (rest : Bool → ℕ → Result (List Piece) Refusal) →
-        prepended tokens.old.items
+    ensures adds { IfOk result (λ after. (rest : Bool → ℕ → Result (List LexedPiece) Refusal) →
+        prepend_tokens tokens.old.items
         (commas before.line_end (at_place before.is_minus at (Ok found.entry) rest))
-        ≡ prepended tokens.new.items
+        ≡ prepend_tokens tokens.new.items
         (commas after.line_end (rest after.is_minus (len_of found.entry - 1)))) }
     // Blanks before the first token are not kept.
     ensures stays { IfOk result (λ after. IsBlank found.entry → before.line_end ≡ None →

@@ -1,13 +1,13 @@
 ghost use Rattle.std.specs.Prelude.{◌≡◌, ◌<◌, IfSome};
-ghost use Rattle.cue_lex.specs.Marks.{mark, single_mark, TakesTheLongest};
+ghost use Rattle.cue_lex.specs.Marks.{mark_in_front, single_mark, TakesTheLongest};
 ghost use Rattle.cue_lex.specs.Lexemes.{EndsAscii};
 
 use crate::Punctuation;
 
 /// The longest punctuation mark at the front, and how many bytes it has.
-#[tactic(auto, unfolding(crate::specs::Marks::mark))]
+#[tactic(auto, unfolding(crate::specs::Marks::mark_in_front))]
 pub fn mark(bytes: &[u8]) -> Option<(Punctuation, usize)>
-    ensures value { result ≡ mark bytes.now }
+    ensures value { result ≡ mark_in_front bytes.now }
     ensures ends { IfSome result (λ found. EndsAscii bytes.now found.1) }
 {
     let [first, rest @ ..] = bytes else {
@@ -18,13 +18,13 @@ pub fn mark(bytes: &[u8]) -> Option<(Punctuation, usize)>
         b'<' if rest.starts_with(b"=") => Some((Punctuation::AtMost, 2)),
         b'>' if rest.starts_with(b"=") => Some((Punctuation::AtLeast, 2)),
         b'!' if rest.starts_with(b"=") => Some((Punctuation::NotEqual, 2)),
-        byte => Some((single(byte)?, 1)),
+        byte => Some((mark_of_byte(byte)?, 1)),
     }
 }
 
 /// The punctuation mark that this byte alone is.
 #[tactic(auto, unfolding(crate::specs::Marks::single_mark))]
-fn single(byte: u8) -> Option<Punctuation>
+fn mark_of_byte(byte: u8) -> Option<Punctuation>
     ensures value { result ≡ single_mark byte }
     ensures ascii { IfSome result (λ _. byte < 128) }
 {

@@ -4,7 +4,7 @@ ghost use Rattle.std.specs.Str.{IsCharBoundary};
 ghost use Rattle.cue_lex.specs.Characters.{is_ascii_part};
 ghost use Rattle.cue_lex.specs.Names.{run_len, word_len, signed_len, identifier_len};
 ghost use Rattle.cue_lex.specs.Longest.{TakesTheLongestIdentifier, TakesBottomBeforeNames};
-ghost use Rattle.cue_lex.specs.Lexemes.{name, len_of};
+ghost use Rattle.cue_lex.specs.Lexemes.{lex_name, len_of};
 
 use crate::character::{is_ascii_part, is_letter, is_name_part};
 use crate::lexeme::Lexeme;
@@ -91,11 +91,11 @@ pub fn identifier_len(text: &str) -> usize
 }
 
 /// The identifier of this length at the front.
-#[tactic(auto, unfolding(crate::specs::Lexemes::name, crate::specs::Lexemes::name_kind))]
+#[tactic(auto, unfolding(crate::specs::Lexemes::lex_name, crate::specs::Lexemes::name_kind))]
 pub fn name<'a>(text: &'a str, len: usize, at: usize) -> Result<Lexeme<'a>, Refusal>
     requires nonempty { 0 < len }
     requires boundary { IsCharBoundary text.now len }
-    ensures value { result ≡ name at len text.now }
+    ensures value { result ≡ lex_name at len text.now }
     ensures len { IfOk result (λ found. len_of found ≡ len) }
 {
     let spelling = &text[..len];

@@ -28,18 +28,18 @@ pub(crate) enum Spelled<'a> {
 impl<'a> Model for Quoted<'a> {
     ghost use Rattle.std.specs.Prelude.{List, ℕ};
     ghost use Rattle.cue_lattice.specs.Word.{IsWord};
-    ghost use Rattle.cue_lex.specs.Spelled.{bytes_of};
+    ghost use Rattle.cue_lex.specs.Spelled.{bytes_of_spelled};
 
     ghost Value = { List ℕ };
 
-    ghost view = { λ q. bytes_of q.spelled };
+    ghost view = { λ q. bytes_of_spelled q.spelled };
 
-    ghost invariant = { λ q. IsWord (bytes_of q.spelled) };
+    ghost invariant = { λ q. IsWord (bytes_of_spelled q.spelled) };
 }
 
 impl<'a> Quoted<'a> {
     /// The text of a string with no escape, as it stands in the fragment.
-    pub fn plain(word: Word<'a>) -> Quoted<'a>
+    pub fn as_plain(word: Word<'a>) -> Quoted<'a>
         ensures { result ≡ word.entry }
     {
         Quoted {
@@ -48,7 +48,7 @@ impl<'a> Quoted<'a> {
     }
 
     /// The text that a string with escapes stands for, which it takes over.
-    pub fn decoded(alloc: Global, text: String) -> Result<Quoted<'a>, Memory>
+    pub fn from_decoded(alloc: Global, text: String) -> Result<Quoted<'a>, Memory>
         requires { length (string_bytes text) ≤ word_limit }
         ensures { IfOk result (λ quoted. quoted ≡ string_bytes text) }
     {

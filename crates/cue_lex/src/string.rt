@@ -5,10 +5,10 @@ ghost use Rattle.std.specs.List.{prefix_len};
 ghost use Rattle.std.specs.Str.{IsCharBoundary};
 ghost use Rattle.cue_lattice.specs.Limits.{word_limit};
 ghost use Rattle.cue_lattice.specs.Refusal.{memory};
-ghost use Rattle.cue_lex.specs.Strings.{bad_string, body, with_front, escape, short_escape, pair};
+ghost use Rattle.cue_lex.specs.Strings.{bad_string, body, with_front, escape_sequence, short_escape, pair};
 ghost use Rattle.cue_lex.specs.Strings.{simple_escape, eight_digits, four_digits, hexadecimal};
 ghost use Rattle.cue_lex.specs.Inner.Strings.{is_plain};
-ghost use Rattle.cue_lex.specs.Lexemes.{Gives, string, kept, EndsAscii, len_of};
+ghost use Rattle.cue_lex.specs.Lexemes.{LexesTo, string, within_text_limit, EndsAscii, len_of};
 
 use crate::lexeme::Lexeme;
 use crate::{Quoted, TokenKind, Word};
@@ -21,31 +21,31 @@ pub fn string<'a>(alloc: Global, text: &'a str, at: usize) -> Result<Lexeme<'a>,
     requires nonempty { 0 < length text.now }
     requires quoted { slice_index text.now 0 ≡ 34 }
     requires room { at + length text.now < 2 ^ 63 }
-    ensures gives { Gives result (string at text.now) }
+    ensures gives { LexesTo result (string at text.now) }
     ensures ends { IfOk result (λ found. EndsAscii text.now (len_of found)) }
 {
     let inside = &text[1..];
     if inside.as_bytes().starts_with(b"\"\"") {
         return Err(bad_string(at));
     }
-    if let Some(plain) = plain(inside) {
+    if let Some(plain) = as_plain(inside) {
         let len = plain.len() + 2;
         let Some(word) = Word::new(plain) else {
             return Err(Refusal::at(Kind::TextTooLong, at));
         };
-        return Ok(Lexeme::Word(TokenKind::Text(Quoted::plain(word)), len));
+        return Ok(Lexeme::Word(TokenKind::Text(Quoted::as_plain(word)), len));
     }
     let (decoded, len) = body(alloc, inside, at)?;
     if decoded.len() > WORD_LIMIT {
         return Err(Refusal::at(Kind::TextTooLong, at));
     }
-    let decoded = Quoted::decoded(alloc, decoded)?;
+    let decoded = Quoted::from_decoded(alloc, decoded)?;
     Ok(Lexeme::Word(TokenKind::Text(decoded), len + 1))
 }
 
 /// What stands before the closing quote, where no escape does. None where one does, and where the
 /// string isn't closed.
-fn plain<'a>(inside: &'a str) -> Option<&'a str>
+fn as_plain<'a>(inside: &'a str) -> Option<&'a str>
     ensures body { IfSome result (λ plain. (start place : ℕ) →
         body start 0 place inside.now ≡ Ok (plain.now, place + length plain.now + 1)) }
     ensures ends { IfSome result (λ plain. EndsAscii inside.now (length plain.now + 1)) }
@@ -83,11 +83,11 @@ fn bad_string(place: usize) -> Refusal
 }
 
 /// What the inside of a string stands for, or a longer text than is kept, and how many bytes it has
-/// with the closing quote. The string begins at `start`, and `text` follows its opening quote.
+/// with the closing quote. The string begins at `start_sets`, and `text` follows its opening quote.
 fn body(alloc: Global, text: &str, start: usize) -> Result<(String, usize), Refusal>
     requires { start + 1 + length text.now < 2 ^ 63 }
-    ensures ok { IfOk result (λ found. kept start (body start 0 (start + 1) text.now)
-        ≡ kept start (Ok (string_bytes found.0, start + 1 + found.1))) }
+    ensures ok { IfOk result (λ found. within_text_limit start (body start 0 (start + 1) text.now)
+        ≡ within_text_limit start (Ok (string_bytes found.0, start + 1 + found.1))) }
     ensures err { IfErr result (λ refusal. refusal ≢ memory →
         body start 0 (start + 1) text.now ≡ Err refusal) }
     ensures ends { IfOk result (λ found. EndsAscii text.now found.1) }
@@ -146,9 +146,9 @@ fn keep(decoded: &mut String, c: char) -> Result<(), Memory>
 }
 
 /// What an escape stands for, by the bytes after its backslash, and how many of these bytes it has.
-#[tactic(auto, unfolding(crate::specs::Strings::escape))]
+#[tactic(auto, unfolding(crate::specs::Strings::escape_sequence))]
 fn escape(bytes: &[u8]) -> Option<(char, usize)>
-    ensures value { result ≡ escape bytes.now }
+    ensures value { result ≡ escape_sequence bytes.now }
     ensures ends { IfSome result (λ found. EndsAscii bytes.now found.1) }
 {
     match bytes {

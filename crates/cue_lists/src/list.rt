@@ -3,7 +3,7 @@
 //! `state` are each a list of the exit status and the output, that of a state in hexadecimal.
 use crate::site::{Reply, written};
 use anyhow::{Context, anyhow};
-use cue_program::Question;
+use cue_program::SiteQuestion;
 use serde_json::Value;
 use std::alloc::Global;
 
@@ -37,7 +37,7 @@ pub fn agrees(
     alloc: Global,
     list: &Value,
     name: &str,
-    question: Question,
+    question: SiteQuestion,
     reply: &Reply,
 ) -> anyhow::Result<bool> {
     let wanted = list

@@ -14,18 +14,18 @@ use again::{Reading, read_again};
 use anyhow::Context;
 use archive::{Case, cases};
 use counts::Counts;
-use cue_program::{Question, Replica, Stop};
+use cue_program::{Replica, RunError, SiteQuestion};
 use list::{agrees, inputs_of};
 use serde_json::Value;
 use site::{answer, document, take_all, written};
 use std::{env, fs};
 
 /// What is asked of each site, with its name in lists and archives.
-const QUESTIONS: [(Question, &str); 4] = [
-    (Question::Export, "export"),
-    (Question::Report, "report"),
-    (Question::Print, "print"),
-    (Question::State, "state"),
+const QUESTIONS: [(SiteQuestion, &str); 4] = [
+    (SiteQuestion::Export, "export"),
+    (SiteQuestion::Report, "report"),
+    (SiteQuestion::Print, "print"),
+    (SiteQuestion::State, "state"),
 ];
 
 /// Asks a new site that was handed the inputs of a line, and tells which answers are others, and
@@ -43,7 +43,7 @@ fn compare_line(
     let came = take_all(alloc, &mut site, &inputs);
     for (question, name) in QUESTIONS {
         let reply = answer(alloc, question, &site, came)?;
-        if question == Question::Export {
+        if question == SiteQuestion::Export {
             counts.add(reply.status);
         }
         let agrees = agrees(alloc, &list, name, question, &reply)?;
@@ -87,14 +87,14 @@ fn compare_answer(
 fn compare_case(rt: &HostRuntime, case: &Case, counts: &mut Counts) -> anyhow::Result<()> {
     let alloc = rt.alloc();
     let mut site = Replica::new(alloc);
-    let came: Result<(), Stop> = take_all(alloc, &mut site, &case.inputs(alloc)?);
+    let came: Result<(), RunError> = take_all(alloc, &mut site, &case.inputs(alloc)?);
     for (question, name) in QUESTIONS {
         let reply = answer(alloc, question, &site, came)?;
-        if question == Question::Export {
+        if question == SiteQuestion::Export {
             counts.add(reply.status);
         }
         let mut found = written(alloc, question, &reply)?;
-        if question == Question::State && reply.status == 0 {
+        if question == SiteQuestion::State && reply.status == 0 {
             // An archive has the digits as a line.
             found.push('\n')?;
         }

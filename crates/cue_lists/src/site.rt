@@ -1,6 +1,8 @@
 //! One site, what it is handed and what it answers.
 use anyhow::{Context, anyhow};
-use cue_program::{Enough, Input, Kept, Question, Replica, Stop, answer_to, printed, take_file};
+use cue_program::{
+    Enough, Input, InputReader, Replica, RunError, SiteQuestion, answer_to, take_file, to_printed,
+};
 use std::alloc::Global;
 
 /// What a run prints, and its exit status.
@@ -11,7 +13,7 @@ pub struct Reply {
 }
 
 /// Hands inputs to a site in their order, up to the first that is refused.
-pub fn take_all(alloc: Global, site: &mut Replica, inputs: &[Vec<u8>]) -> Result<(), Stop> {
+pub fn take_all(alloc: Global, site: &mut Replica, inputs: &[Vec<u8>]) -> Result<(), RunError> {
     let mut number = 0usize;
     for bytes in inputs {
         number = number.saturating_add(1);
@@ -24,22 +26,22 @@ pub fn take_all(alloc: Global, site: &mut Replica, inputs: &[Vec<u8>]) -> Result
 /// What the site answers, or in its place the line of the input that was refused.
 pub fn answer(
     alloc: Global,
-    question: Question,
+    question: SiteQuestion,
     site: &Replica,
-    came: Result<(), Stop>,
+    came: Result<(), RunError>,
 ) -> anyhow::Result<Reply> {
     match came {
         Ok(()) => {
             let told = answer_to(alloc, question, site)
                 .ok()
                 .context("out of memory")?;
-            let shown = printed(question, told).ok().context("out of memory")?;
+            let shown = to_printed(question, told).ok().context("out of memory")?;
             Ok(Reply {
                 bytes: shown.bytes,
                 status: shown.status.code(),
             })
         }
-        Err(Stop::RefusedInput(why, input)) => {
+        Err(RunError::RefusedInput(why, input)) => {
             let (number, name, place) = (why.kind.number(), why.kind.name(), why.place);
             let line = format!(in alloc; "refused {number} {name} at {place} in {input}\n")?;
             Ok(Reply {
@@ -52,8 +54,8 @@ pub fn answer(
 }
 
 /// The output as text: that of a state in hexadecimal.
-pub fn written(alloc: Global, question: Question, reply: &Reply) -> anyhow::Result<String> {
-    if question == Question::State && reply.status == 0 {
+pub fn written(alloc: Global, question: SiteQuestion, reply: &Reply) -> anyhow::Result<String> {
+    if question == SiteQuestion::State && reply.status == 0 {
         return Ok(hex::encode(alloc, reply.bytes.as_slice())?);
     }
     let text = std::str::from_utf8(reply.bytes.as_slice())

@@ -2,27 +2,27 @@
 use Rattle.std.proofs.Common.{◌≡◌, ◌≢◌, ◌⊎◌, ℕ, ◌+◌, ◌<◌, ◌≤◌, length, length-append, ◌∷◌, List, [], ◌++◌, refl, ap, sym, ◌∙◌, arith, append_assoc, append-nil, inl, inr, ⊎_elim, Option, Result, Ok, Err, IsErrAnd, OnOk}
 use Rattle.std.proofs.KnownBytes.{Appends-nil, Appends-trans, Consumes-nil, Consumes-trans}
 use Rattle.std.specs.Io.KnownBytes.{Appends}
-use Rattle.cue_wire.specs.Clients.{Exchange}
-use Rattle.cue_net.specs.declared.halt.Halt.{Halt}
-use Rattle.cue_net.specs.Halts.{IsDevice, IsMemory}
+use Rattle.cue_wire.specs.Clients.{ClientExchange}
+use Rattle.cue_net.specs.declared.halt.NetError.{NetError}
+use Rattle.cue_net.specs.Halts.{IsDeviceNetError, IsMemoryNetError}
 use Rattle.cue_net.specs.Inner.Turns.{IsWriteHalt, Moves}
 use Rattle.cue_net.specs.Talks.{Talk}
-use Rattle.cue_net.specs.Inner.Hearing.{Hears, Lacks, IsHearHalt, HearsAt, Heard, AllSent, Asked, Carries}
+use Rattle.cue_net.specs.Inner.Hearing.{FeedsClient, Lacks, IsReadError, ReadsReplies, RepliesRead, AllSent, RequestsSent, CarriesTalk}
 use Rattle.cue_wire.proofs.Connections.{handed_on}
 use Rattle.cue_net.proofs.Hearing.{hears_nothing, hears_more, balks_later}
 
 abbrev pub no_talk : Talk
 no_talk = record { sent = []; heard = [] }
 
-pub talks_nothing : (given to_come taken : Option (List ℕ)) → Carries no_talk given given to_come to_come taken taken
+pub talks_nothing : (given to_come taken : Option (List ℕ)) → CarriesTalk no_talk given given to_come to_come taken taken
 talks_nothing given to_come taken = record { gave = Appends-nil given; took = Consumes-nil to_come; wrote = Appends-nil taken }
 
 abbrev pub joined : Talk → Talk → Talk
 joined one two = record { sent = one.sent ++ two.sent; heard = one.heard ++ two.heard }
 
 pub talks_more : (one two : Talk) (given given' given'' to_come to_come' to_come'' taken taken' taken'' : Option (List ℕ))
-    → Carries one given given' to_come to_come' taken taken' → Carries two given' given'' to_come' to_come'' taken' taken''
-    → Carries (joined one two) given given'' to_come to_come'' taken taken''
+    → CarriesTalk one given given' to_come to_come' taken taken' → CarriesTalk two given' given'' to_come' to_come'' taken' taken''
+    → CarriesTalk (joined one two) given given'' to_come to_come'' taken taken''
 talks_more one two given given' given'' to_come to_come' to_come'' taken taken' taken'' first second = record {
   gave = Appends-trans given given' given'' one.heard two.heard first.gave second.gave;
   took = Consumes-trans to_come to_come' to_come'' one.heard two.heard first.took second.took;
@@ -30,8 +30,8 @@ talks_more one two given given' given'' to_come to_come' to_come'' taken taken' 
 }
 
 -- nothing is asked yet
-pub asks_nothing : (u : Unit {0}) (old : Exchange) (given to_come taken : Option (List ℕ)) (left failed : ℕ)
-    → Asked (Ok u) [] old old 0 given given to_come to_come taken taken left left failed failed
+pub asks_nothing : (u : Unit {0}) (old : ClientExchange) (given to_come taken : Option (List ℕ)) (left failed : ℕ)
+    → RequestsSent (Ok u) [] old old 0 given given to_come to_come taken taken left left failed failed
 asks_nothing u old given to_come taken left failed = record {
   talk = no_talk;
   unsent = [];
@@ -43,9 +43,9 @@ asks_nothing u old given to_come taken left failed = record {
 }
 
 -- hearing that stops behind what was heard before
-pub stops_later : (halt : Halt) (unsent unsent' : List ℕ) (old mid new : Exchange) (p q : List ℕ) (count count' left failed failed' failed'' : ℕ) (to_come : Option (List ℕ))
-    → Hears old mid p → failed' ≡ failed → count ≤ count' → (unsent ≢ [] → unsent' ≢ []) → IsHearHalt halt unsent mid new q count to_come left failed' failed''
-    → IsHearHalt halt unsent' old new (p ++ q) count' to_come left failed failed''
+pub stops_later : (halt : NetError) (unsent unsent' : List ℕ) (old mid new : ClientExchange) (p q : List ℕ) (count count' left failed failed' failed'' : ℕ) (to_come : Option (List ℕ))
+    → FeedsClient old mid p → failed' ≡ failed → count ≤ count' → (unsent ≢ [] → unsent' ≢ []) → IsReadError halt unsent mid new q count to_come left failed' failed''
+    → IsReadError halt unsent' old new (p ++ q) count' to_come left failed failed''
 stops_later halt unsent unsent' old mid new p q count count' left failed failed' failed'' to_come hears sound fewer still why =
     let lacks : Lacks mid new q count → Lacks old new (p ++ q) count' = λ few. (hears_more old mid new p q hears few.0, omega (arith, fewer, few.1)) in
     ⊎_elim (λ used. inl (used.0, used.1, ⊎_elim (λ some. inl (still some)) (λ few. inr (lacks few)) used.2)) (λ others. inr (⊎_elim inl (λ device. inr (
@@ -54,24 +54,24 @@ stops_later halt unsent unsent' old mid new p q count count' left failed failed'
           (λ rest. inr (⊎_elim (λ ended. inl (ended.0, lacks ended.1)) (λ balks. inr (balks_later old mid p q hears balks)) rest)) device.1,
     )) others)) why
 
-ends_later : (result : Result (Unit {0}) Halt) (unsent : List ℕ) (old mid new : Exchange) (p q : List ℕ) (count left failed failed' failed'' : ℕ) (to_come : Option (List ℕ))
-    → Hears old mid p → failed' ≡ failed → HearsAt result unsent mid new q count to_come left failed' failed''
-    → HearsAt result unsent old new (p ++ q) count to_come left failed failed''
+ends_later : (result : Result (Unit {0}) NetError) (unsent : List ℕ) (old mid new : ClientExchange) (p q : List ℕ) (count left failed failed' failed'' : ℕ) (to_come : Option (List ℕ))
+    → FeedsClient old mid p → failed' ≡ failed → ReadsReplies result unsent mid new q count to_come left failed' failed''
+    → ReadsReplies result unsent old new (p ++ q) count to_come left failed failed''
 ends_later (Ok u) unsent old mid new p q count left failed failed' failed'' to_come hears sound ends = (hears_more old mid new p q hears ends.0, ends.1)
 ends_later (Err halt) unsent old mid new p q count left failed failed' failed'' to_come hears sound ends =
     stops_later halt unsent unsent old mid new p q count count left failed failed' failed'' to_come hears sound (omega arith) (λ some. some) ends
 
 -- what moves behind what has moved
-pub moves_on : (result : Result (Unit {0}) Halt) (start left left' n m all : ℕ) → n + m ≤ all → start ≤ left + n → Moves result left left' m → Moves result start left' all
+pub moves_on : (result : Result (Unit {0}) NetError) (start left left' n m all : ℕ) → n + m ≤ all → start ≤ left + n → Moves result left left' m → Moves result start left' all
 moves_on (Ok u) start left left' n m all sum before more = omega (arith, sum, before, more)
 moves_on (Err halt) start left left' n m all sum before more = ⊎_elim inl (λ moved. inr (omega (arith, sum, before, moved))) more
 
 -- and then more
-pub asks_more : (u : Unit {0}) (result : Result (Unit {0}) Halt) (one two : List ℕ) (old mid new : Exchange) (count count' : ℕ)
+pub asks_more : (u : Unit {0}) (result : Result (Unit {0}) NetError) (one two : List ℕ) (old mid new : ClientExchange) (count count' : ℕ)
     (given given' given'' to_come to_come' to_come'' taken taken' taken'' : Option (List ℕ)) (start left left' failed failed' failed'' : ℕ)
-    → failed' ≡ failed → Asked (Ok u) one old mid count given given' to_come to_come' taken taken' start left failed failed'
-    → Asked result two mid new count' given' given'' to_come' to_come'' taken' taken'' left left' failed' failed''
-    → Asked result (one ++ two) old new count' given given'' to_come to_come'' taken taken'' start left' failed failed''
+    → failed' ≡ failed → RequestsSent (Ok u) one old mid count given given' to_come to_come' taken taken' start left failed failed'
+    → RequestsSent result two mid new count' given' given'' to_come' to_come'' taken' taken'' left left' failed' failed''
+    → RequestsSent result (one ++ two) old new count' given given'' to_come to_come'' taken taken'' start left' failed failed''
 asks_more u result one two old mid new count count' given given' given'' to_come to_come' to_come'' taken taken' taken'' start left left' failed failed' failed'' sound first second = record {
   talk = joined first.talk second.talk;
   unsent = second.unsent;
@@ -90,10 +90,10 @@ still_some [] more some = λ none. some refl
 still_some (x ∷ unsent) more some = λ none. cc
 
 -- what stops while a part is asked stops what is asked with it
-pub asks_part : (halt : Halt) (frames more : List ℕ) (old new : Exchange) (count count' : ℕ)
+pub asks_part : (halt : NetError) (frames more : List ℕ) (old new : ClientExchange) (count count' : ℕ)
     (given given' to_come to_come' taken taken' : Option (List ℕ)) (start left failed failed' : ℕ)
-    → count ≤ count' → Asked (Err halt) frames old new count given given' to_come to_come' taken taken' start left failed failed'
-    → Asked (Err halt) (frames ++ more) old new count' given given' to_come to_come' taken taken' start left failed failed'
+    → count ≤ count' → RequestsSent (Err halt) frames old new count given given' to_come to_come' taken taken' start left failed failed'
+    → RequestsSent (Err halt) (frames ++ more) old new count' given given' to_come to_come' taken taken' start left failed failed'
 asks_part halt frames more old new count count' given given' to_come to_come' taken taken' start left failed failed' fewer asked = record {
   talk = asked.talk;
   unsent = asked.unsent ++ more;
@@ -106,8 +106,8 @@ asks_part halt frames more old new count count' given given' to_come to_come' ta
 }
 
 -- the frames cannot be made, for want of memory
-pub asks_none : (halt : Halt) (frames : List ℕ) (old : Exchange) (count : ℕ) (given to_come taken : Option (List ℕ)) (left failed : ℕ)
-    → IsMemory halt → Asked (Err halt) frames old old count given given to_come to_come taken taken left left failed failed
+pub asks_none : (halt : NetError) (frames : List ℕ) (old : ClientExchange) (count : ℕ) (given to_come taken : Option (List ℕ)) (left failed : ℕ)
+    → IsMemoryNetError halt → RequestsSent (Err halt) frames old old count given given to_come to_come taken taken left left failed failed
 asks_none halt frames old count given to_come taken left failed memory = record {
   talk = no_talk;
   unsent = frames;
@@ -119,10 +119,10 @@ asks_none halt frames old count given to_come taken left failed memory = record 
 }
 
 -- they cannot be written
-pub asks_unsent : (halt : Halt) (frames : List ℕ) (old : Exchange) (count : ℕ) (given to_come taken taken' : Option (List ℕ)) (start left failed failed' failures failures' : ℕ)
+pub asks_unsent : (halt : NetError) (frames : List ℕ) (old : ClientExchange) (count : ℕ) (given to_come taken taken' : Option (List ℕ)) (start left failed failed' failures failures' : ℕ)
     → (failed < failed' → failures < failures')
-    → (front back : List ℕ) × (frames ≡ front ++ back) × Appends taken taken' front × (back ≢ []) × (IsDevice halt ⊎ (start ≤ left + length front)) → IsWriteHalt halt left failed failed'
-    → Asked (Err halt) frames old old count given given to_come to_come taken taken' start left failures failures'
+    → (front back : List ℕ) × (frames ≡ front ++ back) × Appends taken taken' front × (back ≢ []) × (IsDeviceNetError halt ⊎ (start ≤ left + length front)) → IsWriteHalt halt left failed failed'
+    → RequestsSent (Err halt) frames old old count given given to_come to_come taken taken' start left failures failures'
 asks_unsent halt frames old count given to_come taken taken' start left failed failed' failures failures' more w why = record {
   talk = record { sent = w.0; heard = [] };
   unsent = w.1;
@@ -133,23 +133,23 @@ asks_unsent halt frames old count given to_come taken taken' start left failed f
   ends = ⊎_elim (λ used. inl (used.0, used.1, inl w.4)) (λ device. inr (inr (device.0, inl (more device.1)))) why;
 }
 
-hears_at : (result : Result (Unit {0}) Halt) (unsent : List ℕ) (old new : Exchange) (piece : List ℕ) (count left failed failed' failures failures' : ℕ) (to_come : Option (List ℕ))
-    → (failed < failed' → failures < failures') → HearsAt result unsent old new piece count to_come left failed failed'
-    → HearsAt result unsent old new piece count to_come left failures failures'
+hears_at : (result : Result (Unit {0}) NetError) (unsent : List ℕ) (old new : ClientExchange) (piece : List ℕ) (count left failed failed' failures failures' : ℕ) (to_come : Option (List ℕ))
+    → (failed < failed' → failures < failures') → ReadsReplies result unsent old new piece count to_come left failed failed'
+    → ReadsReplies result unsent old new piece count to_come left failures failures'
 hears_at (Ok u) unsent old new piece count left failed failed' failures failures' to_come more ends = ends
 hears_at (Err halt) unsent old new piece count left failed failed' failures failures' to_come more ends =
     ⊎_elim inl (λ others. inr (⊎_elim inl (λ device. inr (device.0, ⊎_elim (λ broke. inl (more broke)) inr device.1)) others)) ends
 
-all_sent : (result : Result (Unit {0}) Halt) → AllSent result []
+all_sent : (result : Result (Unit {0}) NetError) → AllSent result []
 all_sent (Ok u) = refl
 all_sent (Err halt) = tt
 
 -- all is written, and the replies are heard or not
-pub asks_all : (result : Result (Unit {0}) Halt) (frames : List ℕ) (old new : Exchange) (count : ℕ) (given given' to_come to_come' taken taken' : Option (List ℕ))
+pub asks_all : (result : Result (Unit {0}) NetError) (frames : List ℕ) (old new : ClientExchange) (count : ℕ) (given given' to_come to_come' taken taken' : Option (List ℕ))
     (start left left' failed failed' failures failures' : ℕ) → (failed < failed' → failures < failures')
     → (front back : List ℕ) × (frames ≡ front ++ back) × Appends taken taken' front × (back ≡ []) × (start ≤ left + length front)
-    → Heard result old new count given given' to_come to_come' left left' failed failed'
-    → Asked result frames old new count given given' to_come to_come' taken taken' start left' failures failures'
+    → RepliesRead result old new count given given' to_come to_come' left left' failed failed'
+    → RequestsSent result frames old new count given given' to_come to_come' taken taken' start left' failures failures'
 asks_all result frames old new count given given' to_come to_come' taken taken' start left left' failed failed' failures failures' more w heard = record {
   talk = record { sent = w.0; heard = heard.piece };
   unsent = [];
@@ -165,8 +165,8 @@ on_ok (Ok x) P Q f p = f p
 on_ok (Err e) P Q f p = tt
 
 -- asking that stops, handed on
-pub asked_on : {result : Result (Unit {0}) Halt} {halt : Halt} {frames : List ℕ} {old new : Exchange} {count : ℕ} {given given' to_come to_come' taken taken' : Option (List ℕ)}
-    {left left' failed failed' : ℕ} → IsErrAnd result (λ e. e ≡ halt) → Asked (Err halt) frames old new count given given' to_come to_come' taken taken' left left' failed failed'
-    → Asked result frames old new count given given' to_come to_come' taken taken' left left' failed failed'
+pub asked_on : {result : Result (Unit {0}) NetError} {halt : NetError} {frames : List ℕ} {old new : ClientExchange} {count : ℕ} {given given' to_come to_come' taken taken' : Option (List ℕ)}
+    {left left' failed failed' : ℕ} → IsErrAnd result (λ e. e ≡ halt) → RequestsSent (Err halt) frames old new count given given' to_come to_come' taken taken' left left' failed failed'
+    → RequestsSent result frames old new count given given' to_come to_come' taken taken' left left' failed failed'
 asked_on {result} {halt} {frames} {old} {new} {count} {given} {given'} {to_come} {to_come'} {taken} {taken'} {left} {left'} {failed} {failed'} is asked =
-    handed_on (λ r. Asked r frames old new count given given' to_come to_come' taken taken' left left' failed failed') result halt is asked
+    handed_on (λ r. RequestsSent r frames old new count given given' to_come to_come' taken taken' left left' failed failed') result halt is asked

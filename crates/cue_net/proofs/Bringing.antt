@@ -3,13 +3,13 @@ use Rattle.std.proofs.Common.{◌≡◌, ◌⊎◌, ℕ, ◌+◌, ◌-◌, ◌<�
 use Rattle.std.proofs.KnownBytes.{Appends-kept}
 use Rattle.std.proofs.lemmas.List.{take_all, take-take, length-take-le}
 use Rattle.std.specs.Io.KnownBytes.{Appends, Consumes, Keeps}
-use Rattle.cue_wire.specs.Clients.{Exchange}
-use Rattle.cue_net.specs.declared.halt.Halt.{Halt}
-use Rattle.cue_net.specs.Halts.{IsDevice}
+use Rattle.cue_wire.specs.Clients.{ClientExchange}
+use Rattle.cue_net.specs.declared.halt.NetError.{NetError}
+use Rattle.cue_net.specs.Halts.{IsDeviceNetError}
 use Rattle.cue_net.specs.Inner.Turns.{IsWriteHalt}
 use Rattle.cue_net.specs.Talks.{Talk}
-use Rattle.cue_net.specs.Inner.Hearing.{Hears, Balks, Carries}
-use Rattle.cue_net.specs.Inner.Looping.{IsCarryHalt, Brought}
+use Rattle.cue_net.specs.Inner.Hearing.{FeedsClient, FindsLongFrame, CarriesTalk}
+use Rattle.cue_net.specs.Inner.Looping.{IsCarryHalt, CarriedBack}
 use Rattle.cue_wire.proofs.Connections.{handed_on}
 use Rattle.cue_net.proofs.Asking.{no_talk, talks_nothing, joined, talks_more}
 use Rattle.cue_net.proofs.Hearing.{hears_nothing, hears_more, balks_later}
@@ -27,15 +27,15 @@ front_taken taken taken' rest n most within few wrote =
     subst (Appends taken taken') (take-take n most rest (omega (arith, within, length-take-le most rest few))) wrote
 
 -- what was brought so far
-pub record Bringing (bytes rest : List ℕ) (old new : Exchange) (given given' to_come to_come' taken taken' : Option (List ℕ)) (start left : ℕ) : Type 0 where
+pub record Bringing (bytes rest : List ℕ) (old new : ClientExchange) (given given' to_come to_come' taken taken' : Option (List ℕ)) (start left : ℕ) : Type 0 where
   pub talk : Talk
-  pub passes : Carries talk given given' to_come to_come' taken taken'
+  pub passes : CarriesTalk talk given given' to_come to_come' taken taken'
   pub parts : bytes ≡ talk.sent ++ rest
   pub same : length talk.heard ≡ length talk.sent
   pub moves : start ≤ left + (length talk.sent + length talk.heard)
-  pub hears : Hears old new talk.heard
+  pub hears : FeedsClient old new talk.heard
 
-pub brings_nothing : (bytes : List ℕ) (old : Exchange) (given to_come taken : Option (List ℕ)) (left : ℕ) → Bringing bytes bytes old old given given to_come to_come taken taken left left
+pub brings_nothing : (bytes : List ℕ) (old : ClientExchange) (given to_come taken : Option (List ℕ)) (left : ℕ) → Bringing bytes bytes old old given given to_come to_come taken taken left left
 brings_nothing bytes old given to_come taken left = record {
   talk = no_talk;
   passes = talks_nothing given to_come taken;
@@ -45,9 +45,9 @@ brings_nothing bytes old given to_come taken left = record {
   hears = hears_nothing old;
 }
 
-pub brings_more : (bytes rest : List ℕ) (n : ℕ) (old mid new : Exchange) (given given' given'' to_come to_come' to_come'' taken taken' taken'' : Option (List ℕ)) (read : List ℕ) (start left left' : ℕ)
+pub brings_more : (bytes rest : List ℕ) (n : ℕ) (old mid new : ClientExchange) (given given' given'' to_come to_come' to_come'' taken taken' taken'' : Option (List ℕ)) (read : List ℕ) (start left left' : ℕ)
     → n ≤ length rest → left ≤ left' + (n + n) → Bringing bytes rest old mid given given' to_come to_come' taken taken' start left
-    → Appends taken' taken'' (take n rest) → Appends given' given'' read → Consumes to_come' to_come'' read → length read ≡ n → Hears mid new read
+    → Appends taken' taken'' (take n rest) → Appends given' given'' read → Consumes to_come' to_come'' read → length read ≡ n → FeedsClient mid new read
     → Bringing bytes (take (length rest - n) (drop n rest)) old new given given'' to_come to_come'' taken taken'' start left'
 brings_more bytes rest n old mid new given given' given'' to_come to_come' to_come'' taken taken' taken'' read start left left' within moved b wrote gave took long hears = record {
   talk = joined b.talk (record { sent = take n rest; heard = read });
@@ -60,9 +60,9 @@ brings_more bytes rest n old mid new given given' given'' to_come to_come' to_co
 }
 
 -- all is brought
-pub brings_all : (bytes rest : List ℕ) (old new : Exchange) (given given' to_come to_come' taken taken' : Option (List ℕ)) (start left failed failed' : ℕ)
+pub brings_all : (bytes rest : List ℕ) (old new : ClientExchange) (given given' to_come to_come' taken taken' : Option (List ℕ)) (start left failed failed' : ℕ)
     → rest ≡ [] → Bringing bytes rest old new given given' to_come to_come' taken taken' start left
-    → Brought (Ok tt) bytes old new given given' to_come to_come' taken taken' start left failed failed'
+    → CarriedBack (Ok tt) bytes old new given given' to_come to_come' taken taken' start left failed failed'
 brings_all bytes rest old new given given' to_come to_come' taken taken' start left failed failed' none b = record {
   talk = b.talk;
   unsent = rest;
@@ -73,9 +73,9 @@ brings_all bytes rest old new given given' to_come to_come' taken taken' start l
 }
 
 -- no more is written
-pub brings_stopped : (halt : Halt) (bytes rest : List ℕ) (old new : Exchange) (given given' to_come to_come' taken taken' taken'' : Option (List ℕ)) (start left left' failed failed' failures failures' : ℕ)
+pub brings_stopped : (halt : NetError) (bytes rest : List ℕ) (old new : ClientExchange) (given given' to_come to_come' taken taken' taken'' : Option (List ℕ)) (start left left' failed failed' failures failures' : ℕ)
     → (failed < failed' → failures < failures') → Bringing bytes rest old new given given' to_come to_come' taken taken' start left → Keeps taken' taken''
-    → IsDevice halt ⊎ (left' ≡ left) → IsWriteHalt halt left' failed failed' → Brought (Err halt) bytes old new given given' to_come to_come' taken taken'' start left' failures failures'
+    → IsDeviceNetError halt ⊎ (left' ≡ left) → IsWriteHalt halt left' failed failed' → CarriedBack (Err halt) bytes old new given given' to_come to_come' taken taken'' start left' failures failures'
 brings_stopped halt bytes rest old new given given' to_come to_come' taken taken' taken'' start left left' failed failed' failures failures' more b kept idle why = record {
   talk = b.talk;
   unsent = rest;
@@ -86,12 +86,12 @@ brings_stopped halt bytes rest old new given given' to_come to_come' taken taken
 }
 
 -- what is written is not read, or not taken
-pub brings_cut : (halt : Halt) (bytes rest : List ℕ) (n : ℕ) (old mid new : Exchange) (given given' given'' to_come to_come' to_come'' taken taken' taken'' : Option (List ℕ)) (read : List ℕ)
-    (start left left' failed failed' failures failures' : ℕ) → (failed < failed' → failures < failures') → n ≤ length rest → IsDevice halt ⊎ (left ≤ left' + (n + length read))
+pub brings_cut : (halt : NetError) (bytes rest : List ℕ) (n : ℕ) (old mid new : ClientExchange) (given given' given'' to_come to_come' to_come'' taken taken' taken'' : Option (List ℕ)) (read : List ℕ)
+    (start left left' failed failed' failures failures' : ℕ) → (failed < failed' → failures < failures') → n ≤ length rest → IsDeviceNetError halt ⊎ (left ≤ left' + (n + length read))
     → Bringing bytes rest old mid given given' to_come to_come' taken taken' start left
     → Appends taken' taken'' (take n rest) → Appends given' given'' read → Consumes to_come' to_come'' read
-    → IsCarryHalt halt left' to_come'' (length read < n) failed failed' (Balks mid read)
-    → Brought (Err halt) bytes old new given given'' to_come to_come'' taken taken'' start left' failures failures'
+    → IsCarryHalt halt left' to_come'' (length read < n) failed failed' (FindsLongFrame mid read)
+    → CarriedBack (Err halt) bytes old new given given'' to_come to_come'' taken taken'' start left' failures failures'
 brings_cut halt bytes rest n old mid new given given' given'' to_come to_come' to_come'' taken taken' taken'' read start left left' failed failed' failures failures' more within moved b wrote gave took why = record {
   talk = joined b.talk (record { sent = take n rest; heard = read });
   unsent = take (length rest - n) (drop n rest);
@@ -108,8 +108,8 @@ brings_cut halt bytes rest n old mid new given given' given'' to_come to_come' t
 }
 
 -- carrying that stops, handed on
-pub brought_on : {result : Result (Unit {0}) Halt} {halt : Halt} {bytes : List ℕ} {old new : Exchange} {given given' to_come to_come' taken taken' : Option (List ℕ)}
-    {left left' failed failed' : ℕ} → IsErrAnd result (λ e. e ≡ halt) → Brought (Err halt) bytes old new given given' to_come to_come' taken taken' left left' failed failed'
-    → Brought result bytes old new given given' to_come to_come' taken taken' left left' failed failed'
+pub brought_on : {result : Result (Unit {0}) NetError} {halt : NetError} {bytes : List ℕ} {old new : ClientExchange} {given given' to_come to_come' taken taken' : Option (List ℕ)}
+    {left left' failed failed' : ℕ} → IsErrAnd result (λ e. e ≡ halt) → CarriedBack (Err halt) bytes old new given given' to_come to_come' taken taken' left left' failed failed'
+    → CarriedBack result bytes old new given given' to_come to_come' taken taken' left left' failed failed'
 brought_on {result} {halt} {bytes} {old} {new} {given} {given'} {to_come} {to_come'} {taken} {taken'} {left} {left'} {failed} {failed'} is brought =
-    handed_on (λ r. Brought r bytes old new given given' to_come to_come' taken taken' left left' failed failed') result halt is brought
+    handed_on (λ r. CarriedBack r bytes old new given given' to_come to_come' taken taken' left left' failed failed') result halt is brought

@@ -5,12 +5,12 @@ use Rattle.cue_answer.specs.declared.told.Answer.{Answer}
 use Rattle.cue_wire.specs.Clients.{IsSendable}
 use Rattle.cue_wire.specs.Connections.{Moment}
 use Rattle.cue_wire.specs.declared.request.Request as requests
-use Rattle.cue_net.specs.declared.halt.Halt.{Halt}
-use Rattle.cue_net.specs.declared.halt.Halt.TheVariants as halts
-use Rattle.cue_net.specs.Halts.{IsDevice}
-use Rattle.cue_net.specs.Loops.{Ends, IsAnswerBetween}
+use Rattle.cue_net.specs.declared.halt.NetError.{NetError}
+use Rattle.cue_net.specs.declared.halt.NetError.TheVariants as halts
+use Rattle.cue_net.specs.Halts.{IsDeviceNetError}
+use Rattle.cue_net.specs.Loops.{BothEnds, IsAnswerBetween}
 use Rattle.cue_net.specs.Sockets.{IsTalkAnswer}
-use Rattle.cue_net.specs.Talks.{Talk, IsAnswerOf}
+use Rattle.cue_net.specs.Talks.{Talk, IsAnswerInTalk}
 use Rattle.cue_wire.proofs.Connections.{handed_on}
 
 -- an input that no frame can hold
@@ -18,13 +18,13 @@ pub of_long : (inputs : List requests.Request) → (All IsSendable inputs → �
 of_long inputs unfit = inr (halts.Refused kinds.FrameTooLong, refl, inl (refl, unfit))
 
 -- a connection that can't be had
-pub of_device : (inputs : List requests.Request) (result : Result Answer Halt) → IsErrAnd result IsDevice → IsTalkAnswer inputs result
+pub of_device : (inputs : List requests.Request) (result : Result Answer NetError) → IsErrAnd result IsDeviceNetError → IsTalkAnswer inputs result
 of_device inputs result device =
     handed_on (λ r. IsTalkAnswer inputs r) result halts.Device device (inr (halts.Device, refl, inr (inr (inr refl))))
 
 -- a talk
-pub of_talk : (inputs : List requests.Request) (result : Result Answer Halt) (talk : Talk) (turns : ℕ) (before after : Moment)
-    → IsAnswerOf result inputs talk turns before after → IsTalkAnswer inputs result
+pub of_talk : (inputs : List requests.Request) (result : Result Answer NetError) (talk : Talk) (turns : ℕ) (before after : Moment)
+    → IsAnswerInTalk result inputs talk turns before after → IsTalkAnswer inputs result
 of_talk inputs result talk turns before after answer =
     ⊎_elim (λ told. inl (told.0, told.1, told.2.count, told.3))
     (λ cut. inr (
@@ -38,7 +38,7 @@ of_talk inputs result talk turns before after answer =
     answer
 
 -- a talk whose ends are both here
-pub of_both : (inputs : List requests.Request) (result : Result Answer Halt) (here there : Talk) (turns : ℕ) (before after : Ends)
+pub of_both : (inputs : List requests.Request) (result : Result Answer NetError) (here there : Talk) (turns : ℕ) (before after : BothEnds)
     → IsAnswerBetween result inputs here there turns before after → IsTalkAnswer inputs result
 of_both inputs result here there turns before after answer =
     ⊎_elim (λ told. inl (told.1.0, told.1.1, told.1.2.count, told.1.3))

@@ -3,15 +3,15 @@ use Rattle.std.proofs.Common.{◌≡◌, ◌⊎◌, ℕ, ◌+◌, ◌<◌, ◌�
 use Rattle.std.proofs.KnownBytes.{Appends-nil, Appends-kept, Consumes-nil}
 use Rattle.std.specs.Io.KnownBytes.{Appends, Consumes, Keeps}
 use Rattle.cue_replica.specs.Language.{Table}
-use Rattle.cue_wire.specs.Clients.{Exchange}
+use Rattle.cue_wire.specs.Clients.{ClientExchange}
 use Rattle.cue_wire.specs.Sessions.{Standing}
-use Rattle.cue_net.specs.declared.halt.Halt.{Halt}
-use Rattle.cue_net.specs.Halts.{IsDevice, IsMemory}
+use Rattle.cue_net.specs.declared.halt.NetError.{NetError}
+use Rattle.cue_net.specs.Halts.{IsDeviceNetError, IsMemoryNetError}
 use Rattle.cue_net.specs.Inner.Turns.{IsWriteHalt}
 use Rattle.cue_net.specs.Talks.{Talk}
-use Rattle.cue_net.specs.Inner.Hearing.{Hears}
-use Rattle.cue_net.specs.Loops.{bytes_of}
-use Rattle.cue_net.specs.Inner.Looping.{IsCarryHalt, Brought, ServesOnto, Faults, Exchanged, ExchangesAt}
+use Rattle.cue_net.specs.Inner.Hearing.{FeedsClient}
+use Rattle.cue_net.specs.Loops.{bytes_of_loop}
+use Rattle.cue_net.specs.Inner.Looping.{IsCarryHalt, CarriedBack, ServesOnto, Faults, ExchangedFrames, ExchangesAt}
 use Rattle.cue_wire.proofs.Connections.{handed_on}
 use Rattle.cue_net.proofs.Asking.{no_talk, talks_nothing, joined, talks_more, moves_on}
 use Rattle.cue_net.proofs.Hearing.{hears_nothing, hears_more, balks_later}
@@ -25,8 +25,8 @@ shifted old new before after start out sent unsent piece had nil is none serves 
     let all : sent ≡ x.3.replies = sym (is ∙ ap (λ zs. sent ++ zs) none ∙ append-nil sent) ∙ x.3.added ∙ ap (λ zs. zs ++ x.3.replies) nil in
     (x.0, x.1, x.2, record { bodies = x.3.bodies; replies = x.3.replies; frames = x.3.frames; tables = x.3.tables; added = ap (λ zs. had ++ zs) all })
 
-pub ex_nothing : (old : Exchange) (session : Standing) (site : Table) (given to_come taken gave coming took : Option (List ℕ)) (left failed : ℕ)
-    → Exchanged (Ok tt) [] old old session session site site given given to_come to_come taken taken gave gave coming coming took took left left failed failed
+pub ex_nothing : (old : ClientExchange) (session : Standing) (site : Table) (given to_come taken gave coming took : Option (List ℕ)) (left failed : ℕ)
+    → ExchangedFrames (Ok tt) [] old old session session site site given given to_come to_come taken taken gave gave coming coming took took left left failed failed
 ex_nothing old session site given to_come taken gave coming took left failed = record {
   near = no_talk;
   far = no_talk;
@@ -38,8 +38,8 @@ ex_nothing old session site given to_come taken gave coming took left failed = r
   ends = (refl, refl, refl, hears_nothing old, serves_nothing session site []);
 }
 
-pub ex_none : (halt : Halt) (frames : List ℕ) (old : Exchange) (session : Standing) (site : Table) (given to_come taken gave coming took : Option (List ℕ)) (left failed : ℕ)
-    → IsMemory halt → Exchanged (Err halt) frames old old session session site site given given to_come to_come taken taken gave gave coming coming took took left left failed failed
+pub ex_none : (halt : NetError) (frames : List ℕ) (old : ClientExchange) (session : Standing) (site : Table) (given to_come taken gave coming took : Option (List ℕ)) (left failed : ℕ)
+    → IsMemoryNetError halt → ExchangedFrames (Err halt) frames old old session session site site given given to_come to_come taken taken gave gave coming coming took took left left failed failed
 ex_none halt frames old session site given to_come taken gave coming took left failed memory = record {
   near = no_talk;
   far = no_talk;
@@ -51,9 +51,9 @@ ex_none halt frames old session site given to_come taken gave coming took left f
   ends = inr (inl memory);
 }
 
-ends_then : (result : Result (Unit {0}) Halt) (unsent : List ℕ) (near far near' far' : Talk) (old mid new : Exchange) (s0 s1 s2 : Standing) (t0 t1 t2 : Table)
+ends_then : (result : Result (Unit {0}) NetError) (unsent : List ℕ) (near far near' far' : Talk) (old mid new : ClientExchange) (s0 s1 s2 : Standing) (t0 t1 t2 : Table)
     (to_come coming : Option (List ℕ)) (left failed failed' failed'' : ℕ)
-    → failed' ≡ failed → length far.heard ≡ length near.sent → length near.heard ≡ length far.sent → Hears old mid near.heard → ServesOnto s0 s1 t0 t1 [] far.sent far.heard
+    → failed' ≡ failed → length far.heard ≡ length near.sent → length near.heard ≡ length far.sent → FeedsClient old mid near.heard → ServesOnto s0 s1 t0 t1 [] far.sent far.heard
     → ExchangesAt result unsent near' far' mid new s1 s2 t1 t2 to_come coming left failed' failed''
     → ExchangesAt result unsent (joined near near') (joined far far') old new s0 s2 t0 t2 to_come coming left failed failed''
 ends_then (Ok u) unsent near far near' far' old mid new s0 s1 s2 t0 t1 t2 to_come coming left failed failed' failed'' sound there back hears serves e = (
@@ -74,17 +74,17 @@ ends_then (Err halt) unsent near far near' far' old mid new s0 s1 s2 t0 t1 t2 to
           (λ faults. inr (faults_later s0 s1 t0 t1 [] far.sent far.heard far'.heard serves faults)) d)) b)) a)) device.1,
     )) others)) e
 
-sums : (near near' far far' : Talk) → bytes_of near far + bytes_of near' far' ≤ bytes_of (joined near near') (joined far far')
+sums : (near near' far far' : Talk) → bytes_of_loop near far + bytes_of_loop near' far' ≤ bytes_of_loop (joined near near') (joined far far')
 sums near near' far far' =
     omega (arith, length-append near.sent near'.sent, length-append near.heard near'.heard, length-append far.sent far'.sent, length-append far.heard far'.heard)
 
 -- one exchange after the other
-pub ex_then : {u : Unit {0}} {result : Result (Unit {0}) Halt} {one two : List ℕ} {old mid new : Exchange} {s0 s1 s2 : Standing} {t0 t1 t2 : Table}
+pub ex_then : {u : Unit {0}} {result : Result (Unit {0}) NetError} {one two : List ℕ} {old mid new : ClientExchange} {s0 s1 s2 : Standing} {t0 t1 t2 : Table}
     {given given' given'' to_come to_come' to_come'' taken taken' taken'' gave gave' gave'' coming coming' coming'' took took' took'' : Option (List ℕ)}
     {start left left' failed failed' failed'' : ℕ} → failed' ≡ failed
-    → Exchanged (Ok u) one old mid s0 s1 t0 t1 given given' to_come to_come' taken taken' gave gave' coming coming' took took' start left failed failed'
-    → Exchanged result two mid new s1 s2 t1 t2 given' given'' to_come' to_come'' taken' taken'' gave' gave'' coming' coming'' took' took'' left left' failed' failed''
-    → Exchanged result (one ++ two) old new s0 s2 t0 t2 given given'' to_come to_come'' taken taken'' gave gave'' coming coming'' took took'' start left' failed failed''
+    → ExchangedFrames (Ok u) one old mid s0 s1 t0 t1 given given' to_come to_come' taken taken' gave gave' coming coming' took took' start left failed failed'
+    → ExchangedFrames result two mid new s1 s2 t1 t2 given' given'' to_come' to_come'' taken' taken'' gave' gave'' coming' coming'' took' took'' left left' failed' failed''
+    → ExchangedFrames result (one ++ two) old new s0 s2 t0 t2 given given'' to_come to_come'' taken taken'' gave gave'' coming coming'' took took'' start left' failed failed''
 ex_then {u} {result} {one} {two} {old} {mid} {new} {s0} {s1} {s2} {t0} {t1} {t2} {given} {given'} {given''} {to_come} {to_come'} {to_come''} {taken} {taken'} {taken''}
     {gave} {gave'} {gave''} {coming} {coming'} {coming''} {took} {took'} {took''} {start} {left} {left'} {failed} {failed'} {failed''} sound a b = record {
       near = joined a.near b.near;
@@ -94,17 +94,17 @@ ex_then {u} {result} {one} {two} {old} {mid} {new} {s0} {s1} {s2} {t0} {t1} {t2}
       far_passes = talks_more a.far b.far gave gave' gave'' coming coming' coming'' took took' took'' a.far_passes b.far_passes;
       front = ap (λ zs. zs ++ two) (a.front ∙ ap (λ zs. a.near.sent ++ zs) a.ends.0 ∙ append-nil a.near.sent)
           ∙ ap (λ zs. a.near.sent ++ zs) b.front ∙ sym (append_assoc a.near.sent b.near.sent b.unsent);
-      moves = moves_on result start left left' (bytes_of a.near a.far) (bytes_of b.near b.far) (bytes_of (joined a.near b.near) (joined a.far b.far))
+      moves = moves_on result start left left' (bytes_of_loop a.near a.far) (bytes_of_loop b.near b.far) (bytes_of_loop (joined a.near b.near) (joined a.far b.far))
           (sums a.near b.near a.far b.far) a.moves b.moves;
       ends = ends_then result b.unsent a.near a.far b.near b.far old mid new s0 s1 s2 t0 t1 t2 to_come'' coming'' left' failed failed' failed'' sound
           a.ends.1 a.ends.2 a.ends.3 a.ends.4 b.ends;
     }
 
 -- what stops while a part is exchanged
-pub ex_part : {halt : Halt} {frames : List ℕ} {old new : Exchange} {s0 s1 : Standing} {t0 t1 : Table}
+pub ex_part : {halt : NetError} {frames : List ℕ} {old new : ClientExchange} {s0 s1 : Standing} {t0 t1 : Table}
     {given given' to_come to_come' taken taken' gave gave' coming coming' took took' : Option (List ℕ)} {start left failed failed' : ℕ} → (more : List ℕ)
-    → Exchanged (Err halt) frames old new s0 s1 t0 t1 given given' to_come to_come' taken taken' gave gave' coming coming' took took' start left failed failed'
-    → Exchanged (Err halt) (frames ++ more) old new s0 s1 t0 t1 given given' to_come to_come' taken taken' gave gave' coming coming' took took' start left failed failed'
+    → ExchangedFrames (Err halt) frames old new s0 s1 t0 t1 given given' to_come to_come' taken taken' gave gave' coming coming' took took' start left failed failed'
+    → ExchangedFrames (Err halt) (frames ++ more) old new s0 s1 t0 t1 given given' to_come to_come' taken taken' gave gave' coming coming' took took' start left failed failed'
 ex_part {halt} {frames} more a = record {
   near = a.near;
   far = a.far;
@@ -116,10 +116,10 @@ ex_part {halt} {frames} more a = record {
   ends = a.ends;
 }
 
-pub ex_is : {result : Result (Unit {0}) Halt} {frames frames' : List ℕ} {old new : Exchange} {s0 s1 : Standing} {t0 t1 : Table}
+pub ex_is : {result : Result (Unit {0}) NetError} {frames frames' : List ℕ} {old new : ClientExchange} {s0 s1 : Standing} {t0 t1 : Table}
     {given given' to_come to_come' taken taken' gave gave' coming coming' took took' : Option (List ℕ)} {start left failed failed' : ℕ} → frames' ≡ frames
-    → Exchanged result frames old new s0 s1 t0 t1 given given' to_come to_come' taken taken' gave gave' coming coming' took took' start left failed failed'
-    → Exchanged result frames' old new s0 s1 t0 t1 given given' to_come to_come' taken taken' gave gave' coming coming' took took' start left failed failed'
+    → ExchangedFrames result frames old new s0 s1 t0 t1 given given' to_come to_come' taken taken' gave gave' coming coming' took took' start left failed failed'
+    → ExchangedFrames result frames' old new s0 s1 t0 t1 given given' to_come to_come' taken taken' gave gave' coming coming' took took' start left failed failed'
 ex_is is a = record {
   near = a.near;
   far = a.far;
@@ -132,21 +132,21 @@ ex_is is a = record {
 }
 
 -- an exchange that stops, handed on
-pub ex_on : {result : Result (Unit {0}) Halt} {halt : Halt} {frames : List ℕ} {old new : Exchange} {s0 s1 : Standing} {t0 t1 : Table}
+pub ex_on : {result : Result (Unit {0}) NetError} {halt : NetError} {frames : List ℕ} {old new : ClientExchange} {s0 s1 : Standing} {t0 t1 : Table}
     {given given' to_come to_come' taken taken' gave gave' coming coming' took took' : Option (List ℕ)} {start left failed failed' : ℕ} → IsErrAnd result (λ e. e ≡ halt)
-    → Exchanged (Err halt) frames old new s0 s1 t0 t1 given given' to_come to_come' taken taken' gave gave' coming coming' took took' start left failed failed'
-    → Exchanged result frames old new s0 s1 t0 t1 given given' to_come to_come' taken taken' gave gave' coming coming' took took' start left failed failed'
+    → ExchangedFrames (Err halt) frames old new s0 s1 t0 t1 given given' to_come to_come' taken taken' gave gave' coming coming' took took' start left failed failed'
+    → ExchangedFrames result frames old new s0 s1 t0 t1 given given' to_come to_come' taken taken' gave gave' coming coming' took took' start left failed failed'
 ex_on {result} {halt} {frames} {old} {new} {s0} {s1} {t0} {t1} {given} {given'} {to_come} {to_come'} {taken} {taken'} {gave} {gave'} {coming} {coming'} {took} {took'}
     {start} {left} {failed} {failed'} is exchanged =
-    handed_on (λ r. Exchanged r frames old new s0 s1 t0 t1 given given' to_come to_come' taken taken' gave gave' coming coming' took took' start left failed failed')
+    handed_on (λ r. ExchangedFrames r frames old new s0 s1 t0 t1 given given' to_come to_come' taken taken' gave gave' coming coming' took took' start left failed failed')
     result halt is exchanged
 
 -- a piece is written, served, and its replies are heard
-pub piece_exchanged : (piece : List ℕ) (n : ℕ) (old new : Exchange) (s0 s1 : Standing) (t0 t1 : Table) (start out bytes read : List ℕ)
+pub piece_exchanged : (piece : List ℕ) (n : ℕ) (old new : ClientExchange) (s0 s1 : Standing) (t0 t1 : Table) (start out bytes read : List ℕ)
     (given given' to_come to_come' taken taken' gave gave' coming coming' took took' : Option (List ℕ)) (turns left left' failed failed' failures failures' : ℕ)
     → length piece ≡ n → turns ≤ left + (n + n) → start ≡ [] → bytes ≡ out → Appends taken taken' piece → Appends gave gave' read → Consumes coming coming' read
-    → (length read ≡ n) × ServesOnto s0 s1 t0 t1 start out read → Brought (Ok tt) bytes old new given given' to_come to_come' took took' left left' failed failed'
-    → Exchanged (Ok tt) piece old new s0 s1 t0 t1 given given' to_come to_come' taken taken' gave gave' coming coming' took took' turns left' failures failures'
+    → (length read ≡ n) × ServesOnto s0 s1 t0 t1 start out read → CarriedBack (Ok tt) bytes old new given given' to_come to_come' took took' left left' failed failed'
+    → ExchangedFrames (Ok tt) piece old new s0 s1 t0 t1 given given' to_come to_come' taken taken' gave gave' coming coming' took took' turns left' failures failures'
 piece_exchanged piece n old new s0 s1 t0 t1 start out bytes read given given' to_come to_come' taken taken' gave gave' coming coming' took took' turns left left' failed failed' failures failures' long moved nil same wrote gives takes r b = record {
   near = record { sent = piece; heard = b.talk.heard };
   far = record { sent = b.talk.sent; heard = read };
@@ -165,9 +165,9 @@ piece_exchanged piece n old new s0 s1 t0 t1 start out bytes read given given' to
 }
 
 -- it is not written
-pub piece_unwritten : (halt : Halt) (frames : List ℕ) (old : Exchange) (s0 : Standing) (t0 : Table) (given to_come taken taken' gave coming took : Option (List ℕ))
-    (start left failed failed' failures failures' : ℕ) → (failed < failed' → failures < failures') → Keeps taken taken' → IsDevice halt ⊎ (left ≡ start) → IsWriteHalt halt left failed failed'
-    → Exchanged (Err halt) frames old old s0 s0 t0 t0 given given to_come to_come taken taken' gave gave coming coming took took start left failures failures'
+pub piece_unwritten : (halt : NetError) (frames : List ℕ) (old : ClientExchange) (s0 : Standing) (t0 : Table) (given to_come taken taken' gave coming took : Option (List ℕ))
+    (start left failed failed' failures failures' : ℕ) → (failed < failed' → failures < failures') → Keeps taken taken' → IsDeviceNetError halt ⊎ (left ≡ start) → IsWriteHalt halt left failed failed'
+    → ExchangedFrames (Err halt) frames old old s0 s0 t0 t0 given given to_come to_come taken taken' gave gave coming coming took took start left failures failures'
 piece_unwritten halt frames old s0 t0 given to_come taken taken' gave coming took start left failed failed' failures failures' more kept idle why = record {
   near = no_talk;
   far = no_talk;
@@ -180,10 +180,10 @@ piece_unwritten halt frames old s0 t0 given to_come taken taken' gave coming too
 }
 
 -- it is not served
-pub piece_unserved : (halt : Halt) (piece read : List ℕ) (n : ℕ) (old : Exchange) (s0 s1 : Standing) (t0 t1 : Table) (given to_come taken taken' gave gave' coming coming' took : Option (List ℕ))
-    (start left failed failed' failures failures' : ℕ) → (failed < failed' → failures < failures') → IsDevice halt ⊎ (start ≤ left + (length piece + length read)) → Appends taken taken' piece → Appends gave gave' read → Consumes coming coming' read
+pub piece_unserved : (halt : NetError) (piece read : List ℕ) (n : ℕ) (old : ClientExchange) (s0 s1 : Standing) (t0 t1 : Table) (given to_come taken taken' gave gave' coming coming' took : Option (List ℕ))
+    (start left failed failed' failures failures' : ℕ) → (failed < failed' → failures < failures') → IsDeviceNetError halt ⊎ (start ≤ left + (length piece + length read)) → Appends taken taken' piece → Appends gave gave' read → Consumes coming coming' read
     → length piece ≡ n → IsCarryHalt halt left coming' (length read < n) failed failed' (Faults s0 read)
-    → Exchanged (Err halt) piece old old s0 s1 t0 t1 given given to_come to_come taken taken' gave gave' coming coming' took took start left failures failures'
+    → ExchangedFrames (Err halt) piece old old s0 s1 t0 t1 given given to_come to_come taken taken' gave gave' coming coming' took took start left failures failures'
 piece_unserved halt piece read n old s0 s1 t0 t1 given to_come taken taken' gave gave' coming coming' took start left failed failed' failures failures' more moved wrote gives takes long why = record {
   near = record { sent = piece; heard = [] };
   far = record { sent = []; heard = read };
@@ -196,11 +196,11 @@ piece_unserved halt piece read n old s0 s1 t0 t1 given to_come taken taken' gave
 }
 
 -- the replies are not heard
-pub piece_unheard : (halt : Halt) (piece out read : List ℕ) (old new : Exchange) (s0 s1 : Standing) (t0 t1 : Table)
+pub piece_unheard : (halt : NetError) (piece out read : List ℕ) (old new : ClientExchange) (s0 s1 : Standing) (t0 t1 : Table)
     (given given' to_come to_come' taken taken' gave gave' coming coming' took took' : Option (List ℕ)) (start left left' failed failed' failures failures' : ℕ)
     → (failed < failed' → failures < failures') → start ≤ left + (length piece + length read) → Appends taken taken' piece → Appends gave gave' read → Consumes coming coming' read
-    → Brought (Err halt) out old new given given' to_come to_come' took took' left left' failed failed'
-    → Exchanged (Err halt) piece old new s0 s1 t0 t1 given given' to_come to_come' taken taken' gave gave' coming coming' took took' start left' failures failures'
+    → CarriedBack (Err halt) out old new given given' to_come to_come' took took' left left' failed failed'
+    → ExchangedFrames (Err halt) piece old new s0 s1 t0 t1 given given' to_come to_come' taken taken' gave gave' coming coming' took took' start left' failures failures'
 piece_unheard halt piece out read old new s0 s1 t0 t1 given given' to_come to_come' taken taken' gave gave' coming coming' took took' start left left' failed failed' failures failures' more moved wrote gives takes b = record {
   near = record { sent = piece; heard = b.talk.heard };
   far = record { sent = b.talk.sent; heard = read };

@@ -5,8 +5,8 @@ use Rattle.cue_wire.specs.Frames.{HasFault}
 use Rattle.cue_wire.specs.Sessions.{Standing, Served}
 use Rattle.cue_wire.proofs.Readings.{are_readings}
 use Rattle.cue_wire.proofs.Streams.{served_none}
-use Rattle.cue_net.specs.declared.halt.Halt.{Halt}
-use Rattle.cue_net.specs.Halts.{IsDevice, IsMemory}
+use Rattle.cue_net.specs.declared.halt.NetError.{NetError}
+use Rattle.cue_net.specs.Halts.{IsDeviceNetError, IsMemoryNetError}
 use Rattle.cue_net.specs.Inner.Turns.{IsReadHalt, Moves}
 use Rattle.cue_wire.proofs.Connections.{handed_on}
 use Rattle.cue_net.specs.Inner.Looping.{IsCarryHalt, ServesOnto, Faults}
@@ -46,21 +46,21 @@ faults_later old mid before between out out' p q one two kept is unfinished =
     (a.3.bodies ++ f.0, f.1, are_readings.pieces (kept ++ p) q a.3.bodies f.0 a.0 f.1 a.3.frames f.2, f.3)
 
 -- a read that has no bytes ends carrying
-pub reads_nothing : (halt : Halt) (left failed failed' failed'' : ℕ) (to_come : Option (List ℕ)) (Few Balk : Type 0)
+pub reads_nothing : (halt : NetError) (left failed failed' failed'' : ℕ) (to_come : Option (List ℕ)) (Few Balk : Type 0)
     → failed' ≡ failed → Few → IsReadHalt halt left to_come failed' failed'' → IsCarryHalt halt left to_come Few failed failed'' Balk
 reads_nothing halt left failed failed' failed'' to_come Few Balk sound few why =
     ⊎_elim (λ used. inl (used.0, used.1)) (λ device. inr (inr (device.0, ⊎_elim (λ broke. inl (omega (arith, sound, broke))) (λ ended. inr (inl (ended.0, few))) device.1))) why
 
 -- so does a piece that is not taken
-pub takes_nothing : (halt : Halt) (left failed failed' : ℕ) (to_come : Option (List ℕ)) (Few Balk Balk' : Type 0)
-    → (Balk → Balk') → IsMemory halt ⊎ (IsDevice halt × Balk) → IsCarryHalt halt left to_come Few failed failed' Balk'
+pub takes_nothing : (halt : NetError) (left failed failed' : ℕ) (to_come : Option (List ℕ)) (Few Balk Balk' : Type 0)
+    → (Balk → Balk') → IsMemoryNetError halt ⊎ (IsDeviceNetError halt × Balk) → IsCarryHalt halt left to_come Few failed failed' Balk'
 takes_nothing halt left failed failed' to_come Few Balk Balk' later why =
     inr (⊎_elim inl (λ device. inr (device.0, inr (inr (later device.1)))) why)
 
 -- what holds of a halt, handed on
-pub none_ok : (result : Result (Unit {0}) Halt) (halt : Halt) (P : Type 0) → IsErrAnd result (λ e. e ≡ halt) → OnOk result P
+pub none_ok : (result : Result (Unit {0}) NetError) (halt : NetError) (P : Type 0) → IsErrAnd result (λ e. e ≡ halt) → OnOk result P
 none_ok result halt P is = handed_on (λ r. OnOk r P) result halt is tt
 
-pub moved_on : (result : Result (Unit {0}) Halt) (halt : Halt) (left left' count : ℕ) → IsErrAnd result (λ e. e ≡ halt) → IsDevice halt ⊎ (left ≤ left' + count)
+pub moved_on : (result : Result (Unit {0}) NetError) (halt : NetError) (left left' count : ℕ) → IsErrAnd result (λ e. e ≡ halt) → IsDeviceNetError halt ⊎ (left ≤ left' + count)
     → Moves result left left' count
 moved_on result halt left left' count is moved = handed_on (λ r. Moves r left left' count) result halt is moved

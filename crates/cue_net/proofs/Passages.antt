@@ -2,13 +2,13 @@
 use Rattle.std.proofs.Common.{◌≡◌, ◌+◌, ℕ, zero, suc, [], ◌++◌, refl, subst, arith, inl, inr, ⊎_elim, Result, Ok, Err, IfOk, IfErr, IsErrAnd}
 use Rattle.std.proofs.lemmas.List.Elements.{All-nil, All-append}
 use Rattle.cue_answer.specs.declared.told.Answer.{Answer}
-use Rattle.cue_replica.specs.Language.{Table, opening}
-use Rattle.cue_wire.specs.Connections.{Moment, Passage}
+use Rattle.cue_replica.specs.Language.{Table, empty_site}
+use Rattle.cue_wire.specs.Connections.{Moment, ServedPassage}
 use Rattle.cue_wire.specs.Frames.{IsBody}
 use Rattle.cue_wire.specs.Serving.{ServesAll}
 use Rattle.cue_wire.proofs.Readings.{are_readings}
-use Rattle.cue_net.specs.declared.halt.Halt.{Halt}
-use Rattle.cue_net.specs.Halts.{IsDevice, IsMemory, IsDeviceOrMemory}
+use Rattle.cue_net.specs.declared.halt.NetError.{NetError}
+use Rattle.cue_net.specs.Halts.{IsDeviceNetError, IsMemoryNetError, IsDeviceOrMemory}
 use Rattle.cue_net.specs.Doors.{ServedInTurn, ServesOver, IsServing, IsServingAt}
 use Rattle.cue_net.specs.Printed.{ServesSome, IsServedExport}
 
@@ -25,7 +25,7 @@ serves_on before between after one two = (
 )
 
 -- what a connection served
-passed : (before after : Table) → Passage before after → ServesSome before after
+passed : (before after : Table) → ServedPassage before after → ServesSome before after
 passed before after passage =
     (passage.served.bodies, passage.served.replies, passage.served.frames.short, passage.served.tables)
 
@@ -62,20 +62,20 @@ served_some LetsIn Serves some (suc count) door door' before after (middle, betw
 
 -- an export that is answered is that of a site which has served some requests
 pub exports : {D S K : Type 0} (Opens : D → Type 0) (LetsIn : D → D → S → K → Type 0)
-    (at : S → K → Moment) (Fails : Type 0) (count : ℕ) (result : Result Answer Halt)
+    (at : S → K → Moment) (Fails : Type 0) (count : ℕ) (result : Result Answer NetError)
     → IsServingAt Opens LetsIn (ServesOver at) Fails count result → IfOk result IsServedExport
 exports Opens LetsIn at Fails count (Err halt) served = tt
 exports Opens LetsIn at Fails count (Ok answer) served =
     ⊎_elim (λ none. cc) (λ there. (
       there.3.0,
       served_some LetsIn (ServesOver at)
-          (λ source source' sink sink' before after one. passed before after one.0) count there.0 there.1 opening there.3.0 there.3.1,
+          (λ source source' sink sink' before after one. passed before after one.0) count there.0 there.1 empty_site there.3.0 there.3.1,
       there.3.2,
     )) served
 
 -- why there is none
 pub halts_of : {D S K : Type 0} (Opens : D → Type 0) (LetsIn : D → D → S → K → Type 0) (Serves : S → K → S → K → Table → Table → Type 0)
-    (Fails : Type 0) (count : ℕ) (result : Result Answer Halt)
+    (Fails : Type 0) (count : ℕ) (result : Result Answer NetError)
     → IsServingAt Opens LetsIn Serves Fails count result → IfErr result IsDeviceOrMemory
 halts_of Opens LetsIn Serves Fails count (Ok answer) served = tt
 halts_of Opens LetsIn Serves Fails count (Err halt) served =
@@ -83,17 +83,17 @@ halts_of Opens LetsIn Serves Fails count (Err halt) served =
 
 -- all were served, and memory ran out for the export
 pub starves : {D S K : Type 0} (LetsIn : D → D → S → K → Type 0) (Serves : S → K → S → K → Table → Table → Type 0) (Fails : Type 0) (count : ℕ) (door door' : D) (table : Table)
-    (result : Result Answer Halt) → IsErrAnd result IsMemory → ServedInTurn LetsIn Serves count door door' opening table → IsServing LetsIn Serves Fails count door door' result
+    (result : Result Answer NetError) → IsErrAnd result IsMemoryNetError → ServedInTurn LetsIn Serves count door door' empty_site table → IsServing LetsIn Serves Fails count door door' result
 starves LetsIn Serves Fails count door door' table (Ok answer) memory served = absurd memory
 starves LetsIn Serves Fails count door door' table (Err halt) memory served = inr (memory, (table, served))
 
 -- none was let in
 pub stops : {D S K : Type 0} (LetsIn : D → D → S → K → Type 0) (Serves : S → K → S → K → Table → Table → Type 0) (Fails : Type 0) (count : ℕ) (door door' : D)
-    (result : Result Answer Halt) → IsErrAnd result IsDevice → Fails → IsServing LetsIn Serves Fails count door door' result
+    (result : Result Answer NetError) → IsErrAnd result IsDeviceNetError → Fails → IsServing LetsIn Serves Fails count door door' result
 stops LetsIn Serves Fails count door door' (Ok answer) device fails = absurd device
 stops LetsIn Serves Fails count door door' (Err halt) device fails = inl (device, fails)
 
 -- the numbers at the end of the loop
 pub all_served : {D S K : Type 0} (LetsIn : D → D → S → K → Type 0) (Serves : S → K → S → K → Table → Table → Type 0) (served count : ℕ) (door door' : D) (table : Table)
-    → served ≡ count → ServedInTurn LetsIn Serves served door door' opening table → ServedInTurn LetsIn Serves count door door' opening table
-all_served LetsIn Serves served count door door' table same all = subst (λ n. ServedInTurn LetsIn Serves n door door' opening table) same all
+    → served ≡ count → ServedInTurn LetsIn Serves served door door' empty_site table → ServedInTurn LetsIn Serves count door door' empty_site table
+all_served LetsIn Serves served count door door' table same all = subst (λ n. ServedInTurn LetsIn Serves n door door' empty_site table) same all

@@ -3,17 +3,17 @@ use Rattle.std.specs.Prelude.{◌≡◌, ◌⊎◌, ℕ, zero, suc, List, All, R
 use Rattle.cue_lattice.specs.declared.refusal.Kind.{Kind}
 use Rattle.cue_lattice.specs.declared.refusal.Kind.TheVariants as kinds
 use Rattle.cue_answer.specs.declared.told.Answer.{Answer}
-use Rattle.cue_replica.specs.Language.{Table, opening}
+use Rattle.cue_replica.specs.Language.{Table, empty_site}
 use Rattle.cue_wire.specs.declared.connection.Ended.{Ended}
 use Rattle.cue_wire.specs.declared.request.Request as requests
 use Rattle.cue_wire.specs.Clients.{IsSendable}
-use Rattle.cue_wire.specs.Connections.{Passage, PassesBy, EndsAt, Moment}
-use Rattle.cue_net.specs.declared.halt.Halt.{Halt}
-use Rattle.cue_net.specs.declared.halt.Halt.TheVariants as halts
-use Rattle.cue_net.specs.Halts.{IsDevice, IsMemory}
-use Rattle.cue_net.specs.Loops.{IsAnswerBetween, ends}
+use Rattle.cue_wire.specs.Connections.{ServedPassage, PassesBy, ServingEndsAt, Moment}
+use Rattle.cue_net.specs.declared.halt.NetError.{NetError}
+use Rattle.cue_net.specs.declared.halt.NetError.TheVariants as halts
+use Rattle.cue_net.specs.Halts.{IsDeviceNetError, IsMemoryNetError}
+use Rattle.cue_net.specs.Loops.{IsAnswerBetween, both_ends}
 use Rattle.cue_net.specs.Printed.{IsPrintedExport}
-use Rattle.cue_net.specs.Talks.{Talk, IsTalk, IsAnswerOf}
+use Rattle.cue_net.specs.Talks.{Talk, IsTalk, IsAnswerInTalk}
 
 -- the most reads and writes of a connection
 abbrev pub most_turns : ℕ
@@ -24,9 +24,9 @@ most_turns = 100000
 -- moment is handed in.
 abbrev pub ServesOver : {S K : Type 0} → (S → K → Moment) → S → K → S → K → Table → Table → Type 0
 ServesOver at source sink source' sink' before after =
-    (passage : Passage before after) × (ended : Result Ended Kind)
+    (passage : ServedPassage before after) × (ended : Result Ended Kind)
     × PassesBy passage (at source sink) (at source' sink')
-    × EndsAt ended passage most_turns (at source sink) (at source' sink')
+    × ServingEndsAt ended passage most_turns (at source sink) (at source' sink')
 
 -- A door let in so many connections, one after the other, and each was served, from the table that
 -- the one before it left.
@@ -41,38 +41,38 @@ ServedInTurn {D} {S} {K} LetsIn Serves (suc count) door door' before after =
 -- What serving so many connections from a new site came to: the site's export; or a door let none
 -- in; or all were served, and memory ran out for the export.
 abbrev pub IsServing : {D S K : Type 0} → (D → D → S → K → Type 0)
-    → (S → K → S → K → Table → Table → Type 0) → Type 0 → ℕ → D → D → Result Answer Halt → Type 0
+    → (S → K → S → K → Table → Table → Type 0) → Type 0 → ℕ → D → D → Result Answer NetError → Type 0
 IsServing LetsIn Serves Fails count door door' (Ok answer) =
-    (table : Table) × ServedInTurn LetsIn Serves count door door' opening table
+    (table : Table) × ServedInTurn LetsIn Serves count door door' empty_site table
     × IsPrintedExport table answer
 IsServing LetsIn Serves Fails count door door' (Err halt) =
-    (IsDevice halt × Fails)
-    ⊎ (IsMemory halt × ((table : Table)
-    × ServedInTurn LetsIn Serves count door door' opening table))
+    (IsDeviceNetError halt × Fails)
+    ⊎ (IsMemoryNetError halt × ((table : Table)
+    × ServedInTurn LetsIn Serves count door door' empty_site table))
 
 -- so it is at a new door, which is there, or can't be had
 abbrev pub IsServingAt : {D S K : Type 0} → (D → Type 0) → (D → D → S → K → Type 0)
-    → (S → K → S → K → Table → Table → Type 0) → Type 0 → ℕ → Result Answer Halt → Type 0
+    → (S → K → S → K → Table → Table → Type 0) → Type 0 → ℕ → Result Answer NetError → Type 0
 IsServingAt {D} Opens LetsIn Serves Fails count result =
     ((result ≡ Err halts.Device) × Fails)
     ⊎ ((door door' : D) × Opens door × IsServing LetsIn Serves Fails count door door' result)
 
 -- A talk with a site came to this, between two moments of its source and its sink.
 abbrev pub TalksOver : {S K : Type 0} → (S → K → Moment) → List requests.Request
-    → Result Answer Halt → S → K → S → K → Type 0
+    → Result Answer NetError → S → K → S → K → Type 0
 TalksOver at inputs result source sink source' sink' =
     (talk : Talk) × IsTalk talk (at source sink) (at source' sink')
-    × IsAnswerOf result inputs talk most_turns (at source sink) (at source' sink')
+    × IsAnswerInTalk result inputs talk most_turns (at source sink) (at source' sink')
 
 -- Why nobody is asked: a frame can't hold an input; or there is no connection.
-abbrev pub IsUnasked : List requests.Request → Type 0 → Result Answer Halt → Type 0
+abbrev pub IsUnasked : List requests.Request → Type 0 → Result Answer NetError → Type 0
 IsUnasked inputs Fails result =
     ((result ≡ Err (halts.Refused kinds.FrameTooLong)) × (All IsSendable inputs → ⊥))
     ⊎ (All IsSendable inputs × (result ≡ Err halts.Device) × Fails)
 
 -- What pushing inputs came to: what a talk over a new connection did, which is there.
 abbrev pub IsPushing : {S K : Type 0} → (S → K → Type 0) → (S → K → S → K → Type 0) → Type 0
-    → List requests.Request → Result Answer Halt → Type 0
+    → List requests.Request → Result Answer NetError → Type 0
 IsPushing {S} {K} Reaches Talks Fails inputs result =
     IsUnasked inputs Fails result
     ⊎ (All IsSendable inputs × ((source source' : S) × (sink sink' : K)
@@ -80,17 +80,17 @@ IsPushing {S} {K} Reaches Talks Fails inputs result =
 
 -- A talk between a client and a site came to this, between two moments of both ends.
 abbrev pub ConversesOver : {S K : Type 0} → (S → K → Moment) → List requests.Request
-    → Result Answer Halt → S → K → S → K → S → K → S → K → Type 0
+    → Result Answer NetError → S → K → S → K → S → K → S → K → Type 0
 ConversesOver at inputs result near near_sink near' near_sink' far far_sink far' far_sink' =
     (here there : Talk) × IsTalk here (at near near_sink) (at near' near_sink')
     × IsTalk there (at far far_sink) (at far' far_sink')
-    × IsAnswerBetween result inputs here there most_turns (ends at near near_sink far far_sink)
-    (ends at near' near_sink' far' far_sink')
+    × IsAnswerBetween result inputs here there most_turns (both_ends at near near_sink far far_sink)
+    (both_ends at near' near_sink' far' far_sink')
 
 -- What a loop came to: what a talk between both ends of one new connection did, which is there.
 abbrev pub IsLooping : {S K : Type 0} → (S → K → S → K → Type 0)
     → (S → K → S → K → S → K → S → K → Type 0) → Type 0 → List requests.Request
-    → Result Answer Halt → Type 0
+    → Result Answer NetError → Type 0
 IsLooping {S} {K} Joins Converses Fails inputs result =
     IsUnasked inputs Fails result
     ⊎ (All IsSendable inputs × ((near near' far far' : S) × (near_sink near_sink' : K)

@@ -1,24 +1,24 @@
 -- Why a word has no answer.
 use Rattle.std.specs.Prelude.{◌≡◌, ◌⊎◌}
 use Rattle.cue_lattice.specs.declared.refusal.Kind.TheVariants as kinds
-use Rattle.cue_net.specs.declared.halt.Halt.{Halt}
-use Rattle.cue_net.specs.declared.halt.Halt.TheVariants as halts
+use Rattle.cue_net.specs.declared.halt.NetError.{NetError}
+use Rattle.cue_net.specs.declared.halt.NetError.TheVariants as halts
 
 -- a device failed, or what came is none of a site's replies
-abbrev pub IsDevice : Halt → Type 0
-IsDevice halt = halt ≡ halts.Device
+abbrev pub IsDeviceNetError : NetError → Type 0
+IsDeviceNetError halt = halt ≡ halts.Device
 
 -- memory ran out
-abbrev pub IsMemory : Halt → Type 0
-IsMemory halt = halt ≡ halts.Refused kinds.Memory
+abbrev pub IsMemoryNetError : NetError → Type 0
+IsMemoryNetError halt = halt ≡ halts.Refused kinds.Memory
 
 -- no turn is left
-abbrev pub IsTurnsUsed : Halt → Type 0
-IsTurnsUsed halt = halt ≡ halts.Refused kinds.TurnsUsed
+abbrev pub IsTurnsUsedNetError : NetError → Type 0
+IsTurnsUsedNetError halt = halt ≡ halts.Refused kinds.TurnsUsed
 
 -- a frame can't hold an input
-abbrev pub IsTooLong : Halt → Type 0
-IsTooLong halt = halt ≡ halts.Refused kinds.FrameTooLong
+abbrev pub IsTooLongNetError : NetError → Type 0
+IsTooLongNetError halt = halt ≡ halts.Refused kinds.FrameTooLong
 
-abbrev pub IsDeviceOrMemory : Halt → Type 0
-IsDeviceOrMemory halt = IsDevice halt ⊎ IsMemory halt
+abbrev pub IsDeviceOrMemory : NetError → Type 0
+IsDeviceOrMemory halt = IsDeviceNetError halt ⊎ IsMemoryNetError halt

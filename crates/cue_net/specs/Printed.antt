@@ -1,9 +1,9 @@
 -- What is printed of a site's export.
 use Rattle.std.specs.Prelude.{ℕ, List, All}
-use Rattle.cue_answer.specs.declared.question.Question.TheVariants as questions
+use Rattle.cue_answer.specs.declared.question.SiteQuestion.TheVariants as questions
 use Rattle.cue_answer.specs.declared.told.Answer.{Answer}
 use Rattle.cue_answer.specs.Answers.{IsShown}
-use Rattle.cue_replica.specs.Language.{Table, opening}
+use Rattle.cue_replica.specs.Language.{Table, empty_site}
 use Rattle.cue_wire.specs.Frames.{IsBody}
 use Rattle.cue_wire.specs.Serving.{ServesAll}
 
@@ -22,4 +22,4 @@ ServesSome before after =
 -- the export of a new site that has served some requests
 abbrev pub IsServedExport : Answer → Type 0
 IsServedExport answer =
-    (table : Table) × ServesSome opening table × IsPrintedExport table answer
+    (table : Table) × ServesSome empty_site table × IsPrintedExport table answer

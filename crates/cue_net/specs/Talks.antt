@@ -9,9 +9,9 @@ use Rattle.cue_wire.specs.declared.request.Request.TheVariants as asked
 use Rattle.cue_wire.specs.Clients.{request_frame, IsSendable}
 use Rattle.cue_wire.specs.Connections.{Moment, calls, failures}
 use Rattle.cue_wire.specs.Frames.{AreFrames, IsUnfinished, HasFault}
-use Rattle.cue_net.specs.declared.halt.Halt.{Halt}
-use Rattle.cue_net.specs.Halts.{IsDevice, IsMemory, IsTurnsUsed, IsTooLong}
-use Rattle.cue_net.specs.Told.{AreTold}
+use Rattle.cue_net.specs.declared.halt.NetError.{NetError}
+use Rattle.cue_net.specs.Halts.{IsDeviceNetError, IsMemoryNetError, IsTurnsUsedNetError, IsTooLongNetError}
+use Rattle.cue_net.specs.Told.{ReportReplies}
 
 -- what was written, and what was read
 pub record Talk : Type 0 where
@@ -27,15 +27,15 @@ IsTalk talk before after =
     × Appends before.taken after.taken talk.sent
 
 -- the frames of the inputs, and that of the question for the export
-abbrev pub asking : List requests.Request → List ℕ
-asking inputs = flat_map request_frame inputs ++ request_frame asked.AskExport
+abbrev pub request_frames : List requests.Request → List ℕ
+request_frames inputs = flat_map request_frame inputs ++ request_frame asked.AskExport
 
 -- All was sent, and the whole frames of what was heard are these replies to the inputs and the
 -- last, to the question.
 pub record AreReplies (inputs : List requests.Request) (talk : Talk) (replies : List (List ℕ))
     (last : List ℕ) : Type 0 where
   pub rest : List ℕ
-  pub sent : talk.sent ≡ asking inputs
+  pub sent : talk.sent ≡ request_frames inputs
   pub heard : AreFrames talk.heard (replies ++ last ∷ []) rest
   pub unfinished : IsUnfinished rest
   pub count : length replies ≡ length inputs
@@ -63,22 +63,22 @@ pub record AreUsedUp (inputs : List requests.Request) (talk : Talk) (unsent : Li
   pub more : (unsent ≢ []) ⊎ AreTooFew inputs talk.heard
 
 -- Why a talk ends without all replies. Nothing is written where a frame can't hold an input.
-abbrev pub IsCut : Halt → List requests.Request → Talk → List ℕ → ℕ → Moment → Moment → Type 0
+abbrev pub IsCut : NetError → List requests.Request → Talk → List ℕ → ℕ → Moment → Moment → Type 0
 IsCut halt inputs talk unsent turns before after =
-    (IsTooLong halt × (All IsSendable inputs → ⊥) × (talk.sent ≡ []) × (talk.heard ≡ []))
-    ⊎ (IsTurnsUsed halt × AreUsedUp inputs talk unsent turns before after)
-    ⊎ IsMemory halt
-    ⊎ (IsDevice halt × ((failures before < failures after)
+    (IsTooLongNetError halt × (All IsSendable inputs → ⊥) × (talk.sent ≡ []) × (talk.heard ≡ []))
+    ⊎ (IsTurnsUsedNetError halt × AreUsedUp inputs talk unsent turns before after)
+    ⊎ IsMemoryNetError halt
+    ⊎ (IsDeviceNetError halt × ((failures before < failures after)
     ⊎ (IsAtEnd after.to_come × AreTooFew inputs talk.heard)
     ⊎ AreNoReplies inputs talk.heard))
 
 -- What is answered of a talk: what the replies tell; or why it was cut, where the front of the
 -- requests' frames was sent.
-abbrev pub IsAnswerOf : Result Answer Halt → List requests.Request → Talk → ℕ → Moment → Moment
+abbrev pub IsAnswerInTalk : Result Answer NetError → List requests.Request → Talk → ℕ → Moment → Moment
     → Type 0
-IsAnswerOf result inputs talk turns before after =
+IsAnswerInTalk result inputs talk turns before after =
     ((replies : List (List ℕ)) × (last : List ℕ) × AreReplies inputs talk replies last
-    × AreTold replies last result)
-    ⊎ ((halt : Halt) × (unsent : List ℕ) × (result ≡ Err halt)
-    × (asking inputs ≡ talk.sent ++ unsent)
+    × ReportReplies replies last result)
+    ⊎ ((halt : NetError) × (unsent : List ℕ) × (result ≡ Err halt)
+    × (request_frames inputs ≡ talk.sent ++ unsent)
     × IsCut halt inputs talk unsent turns before after)

@@ -3,7 +3,7 @@ use cue_replica::{Kind, Memory, Refusal};
 
 /// What ends a word over a network before it has an answer.
 #[derive(Clone, Copy, Debug, PartialEq, Eq)]
-pub enum Halt {
+pub enum NetError {
     /// A port can't be listened on or connected to, a read or a write failed, or the replies end
     /// early or are none of a site.
     Device,
@@ -15,22 +15,22 @@ pub enum Halt {
     RefusedInput(Refusal, usize),
 }
 
-impl From<Memory> for Halt {
-    ghost use Rattle.cue_net.specs.Halts.{IsMemory};
+impl From<Memory> for NetError {
+    ghost use Rattle.cue_net.specs.Halts.{IsMemoryNetError};
 
-    ghost from_gives = { λ _ halt. IsMemory halt };
+    ghost from_gives = { λ _ halt. IsMemoryNetError halt };
 
-    fn from(_memory: Memory) -> Halt {
-        Halt::Refused(Kind::Memory)
+    fn from(_memory: Memory) -> NetError {
+        NetError::Refused(Kind::Memory)
     }
 }
 
-impl From<Fault> for Halt {
-    ghost use Rattle.cue_net.specs.Halts.{IsDevice};
+impl From<Fault> for NetError {
+    ghost use Rattle.cue_net.specs.Halts.{IsDeviceNetError};
 
-    ghost from_gives = { λ _ halt. IsDevice halt };
+    ghost from_gives = { λ _ halt. IsDeviceNetError halt };
 
-    fn from(_fault: Fault) -> Halt {
-        Halt::Device
+    fn from(_fault: Fault) -> NetError {
+        NetError::Device
     }
 }

@@ -20,15 +20,15 @@ mod turns;
 pub use cue_answer::{Answer, Status};
 pub use cue_replica::{Kind, Refusal};
 pub use cue_wire::Request;
-pub use halt::Halt;
+pub use halt::NetError;
 pub use laws::answers_are_true;
 pub use looped::{converse, loop_for};
 pub use network::{End, Network};
 pub use pushing::{push, push_for};
-pub use reply::{Export, Verdict, export_in, kind_of, read_reply, refusal_in};
+pub use reply::{ExportReply, Verdict, export_in, kind_of, read_reply, refusal_in};
 pub use serving::{serve_for, serve_from};
 pub use sockets::{Outward, Port};
-pub use told::told_by;
+pub use told::answer_of_replies;
 
 /// The most reads and writes of one connection, those of both ends together where both are here.
 pub const MAX_TURNS: u64 = 100_000;

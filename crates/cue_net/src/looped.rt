@@ -1,22 +1,22 @@
 ghost use Rattle.std.specs.Prelude.{◌≡◌, ◌+◌, ◌-◌, ◌^◌, ◌≤◌, ℕ, List, [], flat_map, All, OnOk};
 ghost use Rattle.std.specs.Prelude.{IfOk, IfErr};
-ghost use Rattle.cue_replica.specs.Language.{opening};
+ghost use Rattle.cue_replica.specs.Language.{empty_site};
 ghost use Rattle.cue_wire.specs.Clients.{request_frame, IsSendable};
-ghost use Rattle.cue_wire.specs.Connections.{moment};
+ghost use Rattle.cue_wire.specs.Connections.{moment_of};
 ghost use Rattle.cue_wire.specs.Sessions.{reading};
 ghost use Rattle.cue_net.specs.Doors.{ConversesOver, IsLooping};
-ghost use Rattle.cue_net.specs.Halts.{IsMemory};
-ghost use Rattle.cue_net.specs.Inner.Looping.{Exchanged};
-ghost use Rattle.cue_net.specs.Loops.{IsAnswerBetween, ends};
+ghost use Rattle.cue_net.specs.Halts.{IsMemoryNetError};
+ghost use Rattle.cue_net.specs.Inner.Looping.{ExchangedFrames};
+ghost use Rattle.cue_net.specs.Loops.{IsAnswerBetween, both_ends};
 ghost use Rattle.cue_net.specs.Sockets.{IsTalkAnswer};
 ghost use Rattle.cue_net.specs.Talks.{Talk, IsTalk};
 
 use crate::MAX_TURNS;
-use crate::carrying::{Serving, bring_back, serve_so_many};
-use crate::halt::Halt;
+use crate::carrying::{Serving, carry_replies, serve_so_many};
+use crate::halt::NetError;
 use crate::network::{End, Network};
 use crate::pushing::{all_fit, client_of};
-use crate::told::told_by;
+use crate::told::answer_of_replies;
 use crate::turns::write_some;
 use cue_answer::Answer;
 use cue_device::{Sink, Source};
@@ -32,16 +32,16 @@ use std::alloc::Global;
 /// # Errors
 ///
 /// As `push_for`.
-pub fn loop_for<H>(rt: &H, inputs: &[Request]) -> Result<Answer, Halt>
+pub fn loop_for<H>(rt: &H, inputs: &[Request]) -> Result<Answer, NetError>
 where
     H: AllocGlobal + Network,
-    ensures looped { IsLooping (H.joins rt.now) (ConversesOver (moment H.Input.given
+    ensures looped { IsLooping (H.joins rt.now) (ConversesOver (moment_of H.Input.given
         H.Input.to_come H.Output.taken H.Input.called H.Output.called H.Input.failed
         H.Output.failed) inputs.now result) (H.fails rt.now) inputs.now result }
     ensures answer { IsTalkAnswer inputs.now result }
 {
     if !all_fit(inputs) {
-        return Err(Halt::Refused(Kind::FrameTooLong));
+        return Err(NetError::Refused(Kind::FrameTooLong));
     }
     let (mut near, mut far) = rt.join()?;
     converse(rt.alloc(), &mut near, &mut far, inputs, MAX_TURNS)
@@ -59,15 +59,15 @@ pub fn converse<S: Source, K: Sink>(
     far: &mut End<S, K>,
     inputs: &[Request],
     turns: u64,
-) -> Result<Answer, Halt>
+) -> Result<Answer, NetError>
     requires near { (S.called near.old.source + turns ≤ 2 ^ 64 - 1)
         × (K.called near.old.sink + turns ≤ 2 ^ 64 - 1) }
     requires far { (S.called far.old.source + turns ≤ 2 ^ 64 - 1)
         × (K.called far.old.sink + turns ≤ 2 ^ 64 - 1) }
-    ensures answer { let at = moment S.given S.to_come K.taken S.called K.called S.failed
+    ensures answer { let at = moment_of S.given S.to_come K.taken S.called K.called S.failed
         K.failed in
-        let before = ends at near.old.source near.old.sink far.old.source far.old.sink in
-        let after = ends at near.new.source near.new.sink far.new.source far.new.sink in
+        let before = both_ends at near.old.source near.old.sink far.old.source far.old.sink in
+        let after = both_ends at near.new.source near.new.sink far.new.source far.new.sink in
         (here there : Talk) × IsTalk here before.near after.near × IsTalk there before.far after.far
         × IsAnswerBetween result inputs.now here there turns before after }
     ensures turns { S.called near.new.source + K.called near.new.sink
@@ -76,7 +76,7 @@ pub fn converse<S: Source, K: Sink>(
         + S.called far.old.source + K.called far.old.sink + turns }
 {
     if !all_fit(inputs) {
-        return Err(Halt::Refused(Kind::FrameTooLong));
+        return Err(NetError::Refused(Kind::FrameTooLong));
     }
     let mut hearing = client_of(alloc, &[])?;
     let mut serving = new_site(alloc)?;
@@ -100,14 +100,14 @@ pub fn converse<S: Source, K: Sink>(
         &mut serving,
         &mut left,
     )?;
-    told_by(alloc, hearing.replies(), inputs.len())
+    answer_of_replies(alloc, hearing.replies(), inputs.len())
 }
 
 /// A new site, and a session that was sent nothing.
-fn new_site(alloc: Global) -> Result<Serving, Halt>
-    ensures site { IfOk result (λ serving. serving.site ≡ opening) }
+fn new_site(alloc: Global) -> Result<Serving, NetError>
+    ensures site { IfOk result (λ serving. serving.site ≡ empty_site) }
     ensures session { IfOk result (λ serving. serving.session ≡ reading []) }
-    ensures err { IfErr result IsMemory }
+    ensures err { IfErr result IsMemoryNetError }
 {
     let session = Session::new(alloc)?;
     Ok(Serving {
@@ -127,13 +127,13 @@ fn exchange<S: Source, K: Sink>(
     hearing: &mut Client,
     serving: &mut Serving,
     left: &mut u64,
-) -> Result<(), Halt>
+) -> Result<(), NetError>
     requires fits { All IsSendable requests.now }
     requires near { (S.called near.old.source + left.old ≤ 2 ^ 64 - 1)
         × (K.called near.old.sink + left.old ≤ 2 ^ 64 - 1) }
     requires far { (S.called far.old.source + left.old ≤ 2 ^ 64 - 1)
         × (K.called far.old.sink + left.old ≤ 2 ^ 64 - 1) }
-    ensures exchanged { Exchanged result (flat_map request_frame requests.now) hearing.old
+    ensures exchanged { ExchangedFrames result (flat_map request_frame requests.now) hearing.old
         hearing.new serving.old.session serving.new.session serving.old.site serving.new.site
         (S.given near.old.source) (S.given near.new.source)
         (S.to_come near.old.source) (S.to_come near.new.source)
@@ -165,7 +165,7 @@ fn exchange<S: Source, K: Sink>(
         let count = write_some(&mut near.sink, &rest[..most], left)?;
         serving.out.clear();
         serve_so_many(&mut far.source, serving, count, left)?;
-        bring_back(&mut far.sink, &mut near.source, &serving.out, hearing, left)?;
+        carry_replies(&mut far.sink, &mut near.source, &serving.out, hearing, left)?;
         rest = &rest[count..];
     }
     Ok(())

@@ -2,19 +2,19 @@ ghost use Rattle.std.specs.Prelude.{◌≡◌, ◌≢◌, ◌⊎◌, ◌↔◌, 
 ghost use Rattle.std.specs.Prelude.{length};
 ghost use Rattle.std.specs.Prelude.{flat_map, All, IsTrue, IfOk, IfErr, OnOk};
 ghost use Rattle.std.specs.Io.KnownBytes.{Appends};
-ghost use Rattle.cue_wire.specs.Clients.{request_frame, IsSendable, HasTaken};
-ghost use Rattle.cue_wire.specs.Connections.{moment};
+ghost use Rattle.cue_wire.specs.Clients.{request_frame, IsSendable, ClientHasTaken};
+ghost use Rattle.cue_wire.specs.Connections.{moment_of};
 ghost use Rattle.cue_net.specs.Doors.{IsPushing, TalksOver};
-ghost use Rattle.cue_net.specs.Halts.{IsDevice, IsMemory, IsTooLong};
-ghost use Rattle.cue_net.specs.Inner.Hearing.{Asked, Heard, Hears, Balks};
+ghost use Rattle.cue_net.specs.Halts.{IsDeviceNetError, IsMemoryNetError, IsTooLongNetError};
+ghost use Rattle.cue_net.specs.Inner.Hearing.{RequestsSent, RepliesRead, FeedsClient, FindsLongFrame};
 ghost use Rattle.cue_net.specs.Sockets.{IsTalkAnswer};
-ghost use Rattle.cue_net.specs.Talks.{Talk, IsTalk, IsAnswerOf};
+ghost use Rattle.cue_net.specs.Talks.{Talk, IsTalk, IsAnswerInTalk};
 ghost use Rattle.cue_net.specs.Inner.Turns.{IsWriteHalt, Moves};
 
 use crate::MAX_TURNS;
-use crate::halt::Halt;
+use crate::halt::NetError;
 use crate::network::Network;
-use crate::told::told_by;
+use crate::told::answer_of_replies;
 use crate::turns::{read_some, write_some};
 use cue_answer::Answer;
 use cue_device::{Sink, Source};
@@ -36,16 +36,16 @@ const GROUP: usize = 256;
 /// `RefusedExport` where it refuses to tell its export; `FrameTooLong` where a frame can't hold an
 /// input, before it connects; `TurnsUsed` and `Memory`; `Device`, also where the replies end early
 /// or are none of a site.
-pub fn push_for<H>(rt: &H, port: u16, inputs: &[Request]) -> Result<Answer, Halt>
+pub fn push_for<H>(rt: &H, port: u16, inputs: &[Request]) -> Result<Answer, NetError>
 where
     H: AllocGlobal + Network,
-    ensures pushed { IsPushing (H.reaches rt.now port) (TalksOver (moment H.Input.given
+    ensures pushed { IsPushing (H.reaches rt.now port) (TalksOver (moment_of H.Input.given
         H.Input.to_come H.Output.taken H.Input.called H.Output.called H.Input.failed
         H.Output.failed) inputs.now result) (H.fails rt.now) inputs.now result }
     ensures answer { IsTalkAnswer inputs.now result }
 {
     if !all_fit(inputs) {
-        return Err(Halt::Refused(Kind::FrameTooLong));
+        return Err(NetError::Refused(Kind::FrameTooLong));
     }
     let mut end = rt.connect(port)?;
     push(
@@ -68,19 +68,19 @@ pub fn push<S: Source, K: Sink>(
     sink: &mut K,
     inputs: &[Request],
     turns: u64,
-) -> Result<Answer, Halt>
+) -> Result<Answer, NetError>
     requires reads { S.called source.old + turns ≤ 2 ^ 64 - 1 }
     requires writes { K.called sink.old + turns ≤ 2 ^ 64 - 1 }
-    ensures answer { let at = moment S.given S.to_come K.taken S.called K.called S.failed
+    ensures answer { let at = moment_of S.given S.to_come K.taken S.called K.called S.failed
         K.failed in
         (talk : Talk) × IsTalk talk (at source.old sink.old) (at source.new sink.new)
-        × IsAnswerOf result inputs.now talk turns (at source.old sink.old)
+        × IsAnswerInTalk result inputs.now talk turns (at source.old sink.old)
         (at source.new sink.new) }
     ensures turns { S.called source.new + K.called sink.new
         ≤ S.called source.old + K.called sink.old + turns }
 {
     if !all_fit(inputs) {
-        return Err(Halt::Refused(Kind::FrameTooLong));
+        return Err(NetError::Refused(Kind::FrameTooLong));
     }
     let mut hearing = client_of(alloc, &[])?;
     let mut left = turns;
@@ -96,7 +96,7 @@ pub fn push<S: Source, K: Sink>(
         count,
         &mut left,
     )?;
-    told_by(alloc, hearing.replies(), inputs.len())
+    answer_of_replies(alloc, hearing.replies(), inputs.len())
 }
 
 /// Sends inputs, a group at a time, and hears at least so many replies.
@@ -107,11 +107,11 @@ fn push_inputs<S: Source, K: Sink>(
     inputs: &[Request],
     hearing: &mut Client,
     left: &mut u64,
-) -> Result<(), Halt>
+) -> Result<(), NetError>
     requires fits { All IsSendable inputs.now }
     requires reads { S.called source.old + left.old ≤ 2 ^ 64 - 1 }
     requires writes { K.called sink.old + left.old ≤ 2 ^ 64 - 1 }
-    ensures asked { Asked result (flat_map request_frame inputs.now) hearing.old hearing.new
+    ensures asked { RequestsSent result (flat_map request_frame inputs.now) hearing.old hearing.new
         (length inputs.now) (S.given source.old) (S.given source.new)
         (S.to_come source.old) (S.to_come source.new) (K.taken sink.old) (K.taken sink.new)
         left.old left.new (S.failed source.old + K.failed sink.old)
@@ -167,11 +167,11 @@ fn ask<S: Source, K: Sink>(
     hearing: &mut Client,
     count: usize,
     left: &mut u64,
-) -> Result<(), Halt>
+) -> Result<(), NetError>
     requires fits { All IsSendable requests.now }
     requires reads { S.called source.old + left.old ≤ 2 ^ 64 - 1 }
     requires writes { K.called sink.old + left.old ≤ 2 ^ 64 - 1 }
-    ensures asked { Asked result (flat_map request_frame requests.now) hearing.old hearing.new
+    ensures asked { RequestsSent result (flat_map request_frame requests.now) hearing.old hearing.new
         count (S.given source.old) (S.given source.new)
         (S.to_come source.old) (S.to_come source.new) (K.taken sink.old) (K.taken sink.new)
         left.old left.new (S.failed source.old + K.failed sink.old)
@@ -189,18 +189,18 @@ fn ask<S: Source, K: Sink>(
 }
 
 /// A client with these requests to send, that was fed nothing.
-pub fn client_of(alloc: Global, requests: &[Request]) -> Result<Client, Halt>
+pub fn client_of(alloc: Global, requests: &[Request]) -> Result<Client, NetError>
     ensures outgoing { IfOk result (λ client.
         client.outgoing ≡ flat_map request_frame requests.now) }
-    ensures taken { IfOk result (λ client. HasTaken client []) }
-    ensures err { IfErr result (λ halt. IsMemory halt ⊎ (IsTooLong halt
+    ensures taken { IfOk result (λ client. ClientHasTaken client []) }
+    ensures err { IfErr result (λ halt. IsMemoryNetError halt ⊎ (IsTooLongNetError halt
         × (All IsSendable requests.now → ⊥))) }
 {
-    Client::new(alloc, requests).map_err(Halt::Refused)
+    Client::new(alloc, requests).map_err(NetError::Refused)
 }
 
 /// Writes bytes, each time all that is left of them, while there are turns.
-fn send<K: Sink>(sink: &mut K, bytes: &[u8], left: &mut u64) -> Result<(), Halt>
+fn send<K: Sink>(sink: &mut K, bytes: &[u8], left: &mut u64) -> Result<(), NetError>
     requires { K.called sink.old + left.old ≤ 2 ^ 64 - 1 }
     ensures sent { (front back : List ℕ) × (bytes.now ≡ front ++ back)
         × Appends (K.taken sink.old) (K.taken sink.new) front × OnOk result (back ≡ [])
@@ -225,9 +225,9 @@ fn receive<S: Source>(
     hearing: &mut Client,
     count: usize,
     left: &mut u64,
-) -> Result<(), Halt>
+) -> Result<(), NetError>
     requires { S.called source.old + left.old ≤ 2 ^ 64 - 1 }
-    ensures heard { Heard result hearing.old hearing.new count (S.given source.old)
+    ensures heard { RepliesRead result hearing.old hearing.new count (S.given source.old)
         (S.given source.new) (S.to_come source.old) (S.to_come source.new) left.old left.new
         (S.failed source.old) (S.failed source.new) }
     ensures turns { S.called source.new + left.new ≡ S.called source.old + left.old }
@@ -237,20 +237,20 @@ fn receive<S: Source>(
     let mut piece = [0u8; PIECE];
     while hearing.replies().len() < count {
         let got = read_some(source, &mut piece, left)?;
-        hear(hearing, &piece[..got])?;
+        feed_client(hearing, &piece[..got])?;
     }
     Ok(())
 }
 
 /// Hands a client the next bytes of its replies.
-pub fn hear(hearing: &mut Client, piece: &[u8]) -> Result<(), Halt>
-    ensures ok { OnOk result (Hears hearing.old hearing.new piece.now) }
-    ensures err { IfErr result (λ halt. IsMemory halt
-        ⊎ (IsDevice halt × Balks hearing.old piece.now)) }
+pub fn feed_client(hearing: &mut Client, piece: &[u8]) -> Result<(), NetError>
+    ensures ok { OnOk result (FeedsClient hearing.old hearing.new piece.now) }
+    ensures err { IfErr result (λ halt. IsMemoryNetError halt
+        ⊎ (IsDeviceNetError halt × FindsLongFrame hearing.old piece.now)) }
 {
     match hearing.feed(piece) {
         Ok(()) => Ok(()),
-        Err(Kind::Memory) => Err(Halt::Refused(Kind::Memory)),
-        Err(_) => Err(Halt::Device),
+        Err(Kind::Memory) => Err(NetError::Refused(Kind::Memory)),
+        Err(_) => Err(NetError::Device),
     }
 }

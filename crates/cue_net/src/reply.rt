@@ -3,7 +3,7 @@ ghost use Rattle.std.specs.Prelude.{length};
 ghost use Rattle.std.specs.Int.{w64, to_be_bytes};
 ghost use Rattle.cue_lattice.specs.Refusal.{number_of};
 ghost use Rattle.cue_answer.specs.Answers.{code_of};
-ghost use Rattle.cue_net.specs.Replies.{IsUntold, Says, SaysOfInput, SaysOfExport};
+ghost use Rattle.cue_net.specs.Replies.{IsReplyUnreadable, ReplySays, ReplySaysOfInput, ReplySaysOfExport};
 ghost use Rattle.cue_net.specs.Replies.{IsNoReply, IsNoInputReply, IsNoExportReply};
 
 use cue_answer::Status;
@@ -27,7 +27,7 @@ pub enum Verdict<'r> {
 ///
 /// `Fault` where no site replies so.
 pub fn read_reply(reply: &[u8]) -> Result<Verdict<'_>, Fault>
-    ensures says { IfOk result (Says reply.now) }
+    ensures says { IfOk result (ReplySays reply.now) }
     ensures fault { IsErr result → IsNoReply reply.now }
 {
     let Some((number, rest)) = reply.split_first() else {
@@ -58,8 +58,8 @@ fn place_in(bytes: &[u8]) -> Option<u64>
 /// The kind of this number, where a site refuses a frame so. A reply doesn't say the form of what
 /// the language leaves out.
 pub fn kind_of(number: u8) -> Option<Kind>
-    ensures some { IfSome result (λ kind. (number_of kind ≡ number) × (IsUntold kind → ⊥)) }
-    ensures none { IfNone result ((kind : Kind) → number_of kind ≡ number → IsUntold kind) }
+    ensures some { IfSome result (λ kind. (number_of kind ≡ number) × (IsReplyUnreadable kind → ⊥)) }
+    ensures none { IfNone result ((kind : Kind) → number_of kind ≡ number → IsReplyUnreadable kind) }
 {
     Some(match number {
         1 => Kind::TooLong,
@@ -92,7 +92,7 @@ pub fn kind_of(number: u8) -> Option<Kind>
 ///
 /// `Fault` where no site replies so to an input.
 pub fn refusal_in(reply: &[u8]) -> Result<Option<Refusal>, Fault>
-    ensures says { IfOk result (SaysOfInput reply.now) }
+    ensures says { IfOk result (ReplySaysOfInput reply.now) }
     ensures fault { IsErr result → IsNoInputReply reply.now }
 {
     match read_reply(reply)? {
@@ -104,7 +104,7 @@ pub fn refusal_in(reply: &[u8]) -> Result<Option<Refusal>, Fault>
 
 /// What the reply to the question for the export says.
 #[derive(Clone, Copy, Debug)]
-pub enum Export<'r> {
+pub enum ExportReply<'r> {
     /// Its status, and the JSON or the lines that go with that.
     Told(Status, &'r [u8]),
     /// The site refuses to tell it.
@@ -116,21 +116,21 @@ pub enum Export<'r> {
 /// # Errors
 ///
 /// `Fault` where no site replies so to it.
-pub fn export_in(reply: &[u8]) -> Result<Export<'_>, Fault>
-    ensures says { IfOk result (SaysOfExport reply.now) }
+pub fn export_in(reply: &[u8]) -> Result<ExportReply<'_>, Fault>
+    ensures says { IfOk result (ReplySaysOfExport reply.now) }
     ensures fault { IsErr result → IsNoExportReply reply.now }
 {
     match read_reply(reply)? {
         Verdict::Accepted(told) => {
-            let (status, text) = told_in(told).ok_or(Fault)?;
-            Ok(Export::Told(status, text))
+            let (status, text) = read_export(told).ok_or(Fault)?;
+            Ok(ExportReply::Told(status, text))
         }
-        Verdict::Refused(why) => Ok(Export::Refused(why.kind)),
+        Verdict::Refused(why) => Ok(ExportReply::Refused(why.kind)),
     }
 }
 
 /// The status and the text in what is told of an export.
-fn told_in(told: &[u8]) -> Option<(Status, &[u8])>
+fn read_export(told: &[u8]) -> Option<(Status, &[u8])>
     ensures some { IfSome result (λ found. (told.now ≡ code_of found.0 ∷ found.1.now)
         × IsUtf8 found.1.now) }
     ensures none { IfNone result ((status : Status) → (text : List ℕ)

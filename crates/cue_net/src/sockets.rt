@@ -89,17 +89,17 @@ impl<H: Net<Listener = TcpListener, Stream = TcpStream>> Network for H {
     ghost fails = { λ _. Unit {0} };
 
     fn open(&self, port: u16) -> Result<Port, Fault> {
-        let listener = done(TcpListener::bind(self, (Ipv4Addr::LOCALHOST, port)))?;
+        let listener = check_call(TcpListener::bind(self, (Ipv4Addr::LOCALHOST, port)))?;
         Ok(Port::new(listener, Duration::from_secs(PATIENCE)))
     }
 
     fn accept(&self, door: &mut Port) -> Result<Socket, Fault> {
-        let (stream, _) = done(door.listener.accept())?;
+        let (stream, _) = check_call(door.listener.accept())?;
         end_of(stream, door.patience)
     }
 
     fn connect(&self, port: u16) -> Result<Socket, Fault> {
-        let stream = done(TcpStream::connect(self, (Ipv4Addr::LOCALHOST, port)))?;
+        let stream = check_call(TcpStream::connect(self, (Ipv4Addr::LOCALHOST, port)))?;
         end_of(stream, Duration::from_secs(PATIENCE))
     }
 
@@ -107,10 +107,10 @@ impl<H: Net<Listener = TcpListener, Stream = TcpStream>> Network for H {
     /// fails.
     fn join(&self) -> Result<(Socket, Socket), Fault> {
         let patience = Duration::from_secs(PATIENCE);
-        let listener = done(TcpListener::bind(self, (Ipv4Addr::LOCALHOST, 0)))?;
-        let near = done(TcpStream::connect(self, done(listener.local_addr())?))?;
-        let (far, from) = done(listener.accept())?;
-        if from != done(near.local_addr())? {
+        let listener = check_call(TcpListener::bind(self, (Ipv4Addr::LOCALHOST, 0)))?;
+        let near = check_call(TcpStream::connect(self, check_call(listener.local_addr())?))?;
+        let (far, from) = check_call(listener.accept())?;
+        if from != check_call(near.local_addr())? {
             return Err(Fault);
         }
         Ok((end_of(near, patience)?, end_of(far, patience)?))
@@ -118,7 +118,7 @@ impl<H: Net<Listener = TcpListener, Stream = TcpStream>> Network for H {
 }
 
 /// What a call of the system came to.
-fn done<T>(came: io::Result<T>) -> Result<T, Fault> {
+fn check_call<T>(came: io::Result<T>) -> Result<T, Fault> {
     came.map_err(|_| Fault)
 }
 
@@ -134,7 +134,7 @@ fn end_of(stream: TcpStream, patience: Duration) -> Result<Socket, Fault>
     if set_up(&stream, patience).is_err() {
         let _shut = stream.shutdown(Shutdown::Both);
     }
-    let other = done(stream.try_clone())?;
+    let other = check_call(stream.try_clone())?;
     Ok(End {
         source: Reader::new(stream),
         sink: Writer::new(Outward::new(other)),

@@ -4,12 +4,12 @@ ghost use Rattle.std.specs.Prelude.{Any, length};
 ghost use Rattle.cue_answer.specs.Answers.{code_of};
 ghost use Rattle.cue_wire.specs.Clients.{all_items};
 ghost use Rattle.cue_net.specs.Replies.{IsNoInputReply};
-ghost use Rattle.cue_net.specs.Told.{AreTold, IsPrinted};
+ghost use Rattle.cue_net.specs.Told.{ReportReplies, IsPrinted};
 ghost use Rattle.cue_net.specs.Inner.Told.{IsFound, first_of};
 
-use crate::halt::Halt;
-use crate::reply::{Export, export_in, refusal_in};
-use cue_answer::{Answer, Question, Status, printed};
+use crate::halt::NetError;
+use crate::reply::{ExportReply, export_in, refusal_in};
+use cue_answer::{Answer, SiteQuestion, Status, to_printed};
 use cue_device::Fault;
 use cue_replica::{Memory, Refusal};
 use std::alloc::Global;
@@ -21,40 +21,44 @@ use std::alloc::Global;
 ///
 /// `RefusedInput` for the first input that is refused, and `RefusedExport`; `Device` where there
 /// are not so many replies, or one is none of a site; and `Memory`.
-pub fn told_by(alloc: Global, replies: &[Vec<u8>], inputs: usize) -> Result<Answer, Halt>
+pub fn answer_of_replies(
+    alloc: Global,
+    replies: &[Vec<u8>],
+    inputs: usize,
+) -> Result<Answer, NetError>
     ensures { ((to_inputs : List (List ℕ)) × (last : List ℕ)
         × (all_items replies.now ≡ to_inputs ++ last ∷ []) × (length to_inputs ≡ inputs)
-        × AreTold to_inputs last result)
+        × ReportReplies to_inputs last result)
         ⊎ ((length replies.now ≢ inputs + 1) × IsErrOf result Halt.Device) }
 {
     let Some((last, to_inputs)) = replies.split_last() else {
-        return Err(Halt::Device);
+        return Err(NetError::Device);
     };
     if to_inputs.len() != inputs {
-        return Err(Halt::Device);
+        return Err(NetError::Device);
     }
-    told_of(alloc, to_inputs, last)
+    last_answer(alloc, to_inputs, last)
 }
 
 /// What the replies to inputs and to the question for the export tell.
-fn told_of(alloc: Global, to_inputs: &[Vec<u8>], last: &[u8]) -> Result<Answer, Halt>
-    ensures { AreTold (all_items to_inputs.now) last.now result }
+fn last_answer(alloc: Global, to_inputs: &[Vec<u8>], last: &[u8]) -> Result<Answer, NetError>
+    ensures { ReportReplies (all_items to_inputs.now) last.now result }
 {
     let first = first_refusal(to_inputs)?;
     let export = export_in(last)?;
     match (first, export) {
-        (Some((why, number)), _) => Err(Halt::RefusedInput(why, number)),
-        (None, Export::Refused(kind)) => Err(Halt::RefusedExport(kind)),
-        (None, Export::Told(status, text)) => Ok(shown(alloc, status, text)?),
+        (Some((why, number)), _) => Err(NetError::RefusedInput(why, number)),
+        (None, ExportReply::Refused(kind)) => Err(NetError::RefusedExport(kind)),
+        (None, ExportReply::Told(status, text)) => Ok(print_export(alloc, status, text)?),
     }
 }
 
 /// An export of this status and text, as it is printed.
-fn shown(alloc: Global, status: Status, text: &[u8]) -> Result<Answer, Memory>
+fn print_export(alloc: Global, status: Status, text: &[u8]) -> Result<Answer, Memory>
     ensures { IfOk result (λ answer. IsPrinted answer status text.now) }
 {
     let bytes = Vec::from_slice(alloc, text)?;
-    printed(Question::Export, Answer { bytes, status })
+    to_printed(SiteQuestion::Export, Answer { bytes, status })
 }
 
 /// The first refusal among the replies to inputs, and the number of its input, from 1.

@@ -1,10 +1,10 @@
 ghost use Rattle.std.specs.Prelude.{◌≡◌, ◌⊎◌, ◌+◌, ◌-◌, ◌^◌, ◌≤◌, ◌<◌, OnOk, IfOk, IfErr, length};
 ghost use Rattle.std.specs.Prelude.{drop};
 ghost use Rattle.std.specs.Io.KnownBytes.{WriteAppends, ReadConsumes};
-ghost use Rattle.cue_net.specs.Halts.{IsDevice};
+ghost use Rattle.cue_net.specs.Halts.{IsDeviceNetError};
 ghost use Rattle.cue_net.specs.Inner.Turns.{IsReadHalt, IsWriteHalt};
 
-use crate::halt::Halt;
+use crate::halt::NetError;
 use cue_device::{Sink, Source};
 use cue_replica::Kind;
 
@@ -13,7 +13,11 @@ use cue_replica::Kind;
 /// # Errors
 ///
 /// `TurnsUsed` where no turn is left, and `Device` where the read fails or finds the end.
-pub fn read_some<S: Source>(source: &mut S, into: &mut [u8], left: &mut u64) -> Result<usize, Halt>
+pub fn read_some<S: Source>(
+    source: &mut S,
+    into: &mut [u8],
+    left: &mut u64,
+) -> Result<usize, NetError>
     requires room { 0 < length into.old }
     requires counts { S.called source.old + left.old ≤ 2 ^ 64 - 1 }
     ensures bound { IfOk result (λ n. (0 < n) × (n ≤ length into.new)) }
@@ -23,17 +27,17 @@ pub fn read_some<S: Source>(source: &mut S, into: &mut [u8], left: &mut u64) -> 
     ensures turns { S.called source.new + left.new ≡ S.called source.old + left.old }
     ensures turn { OnOk result (left.old ≡ left.new + 1) }
     ensures fewer { left.new ≤ left.old }
-    ensures idle { IfErr result (λ halt. IsDevice halt ⊎ (left.new ≡ left.old)) }
+    ensures idle { IfErr result (λ halt. IsDeviceNetError halt ⊎ (left.new ≡ left.old)) }
     ensures sound { OnOk result (S.failed source.new ≡ S.failed source.old) }
     ensures halt { IfErr result (λ halt. IsReadHalt halt left.new (S.to_come source.new)
         (S.failed source.old) (S.failed source.new)) }
 {
     if *left == 0 {
-        return Err(Halt::Refused(Kind::TurnsUsed));
+        return Err(NetError::Refused(Kind::TurnsUsed));
     }
     *left -= 1;
     match source.read(into)? {
-        0 => Err(Halt::Device),
+        0 => Err(NetError::Device),
         count => Ok(count),
     }
 }
@@ -43,7 +47,7 @@ pub fn read_some<S: Source>(source: &mut S, into: &mut [u8], left: &mut u64) -> 
 /// # Errors
 ///
 /// `TurnsUsed` where no turn is left, and `Device` where the write fails.
-pub fn write_some<K: Sink>(sink: &mut K, bytes: &[u8], left: &mut u64) -> Result<usize, Halt>
+pub fn write_some<K: Sink>(sink: &mut K, bytes: &[u8], left: &mut u64) -> Result<usize, NetError>
     requires { K.called sink.old + left.old ≤ 2 ^ 64 - 1 }
     ensures bound { IfOk result (λ n. n ≤ length bytes.now) }
     ensures some { IfOk result (λ n. 0 < length bytes.now → 0 < n) }
@@ -51,13 +55,13 @@ pub fn write_some<K: Sink>(sink: &mut K, bytes: &[u8], left: &mut u64) -> Result
     ensures turns { K.called sink.new + left.new ≡ K.called sink.old + left.old }
     ensures turn { OnOk result (left.old ≡ left.new + 1) }
     ensures fewer { left.new ≤ left.old }
-    ensures idle { IfErr result (λ halt. IsDevice halt ⊎ (left.new ≡ left.old)) }
+    ensures idle { IfErr result (λ halt. IsDeviceNetError halt ⊎ (left.new ≡ left.old)) }
     ensures sound { OnOk result (K.failed sink.new ≡ K.failed sink.old) }
     ensures halt { IfErr result (λ halt. IsWriteHalt halt left.new
         (K.failed sink.old) (K.failed sink.new)) }
 {
     if *left == 0 {
-        return Err(Halt::Refused(Kind::TurnsUsed));
+        return Err(NetError::Refused(Kind::TurnsUsed));
     }
     *left -= 1;
     Ok(sink.write(bytes)?)

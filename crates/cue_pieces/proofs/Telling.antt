@@ -7,10 +7,10 @@ use Rattle.std.specs.Result.{result_ok}
 use Rattle.std.proofs.lemmas.Bool.Decides.{nat_tests}
 use Rattle.std.specs.Str.Parse.{AllDigits, ParsesUnsigned}
 use Rattle.std.proofs.lemmas.Fmt.{decimal_is_IsNumeral, parse-decimal}
-use Rattle.cue_pieces.specs.declared.cursor.Cursor.{Cursor}
-use Rattle.cue_pieces.specs.Cursors.{cursor_text, Tells}
+use Rattle.cue_pieces.specs.declared.cursor.PieceCursor.{PieceCursor}
+use Rattle.cue_pieces.specs.Cursors.{cursor_text, IsDecimalOf}
 
-pub tells : {E : Type 0} (digits : List ℕ) (r : Result ℕ E) (n : ℕ) → ParsesUnsigned 64 10 digits r → Some n ≡ result_ok r → Tells digits n
+pub tells : {E : Type 0} (digits : List ℕ) (r : Result ℕ E) (n : ℕ) → ParsesUnsigned 64 10 digits r → Some n ≡ result_ok r → IsDecimalOf digits n
 tells digits (Ok m) n parses is =
     let same : n ≡ m = cc in
     (parses.0.0, sym parses.1 ∙ sym same)
@@ -46,11 +46,11 @@ read_as digits r n small is parses = ap result_ok (parse-decimal 64 n digits r s
 pub not_none : (n : ℕ) → ◌≡◌ {A = Option ℕ} (Some n) None → ⊥
 not_none n e = cc
 
-cursor_at : ℕ → ℕ → Option Cursor
+cursor_at : ℕ → ℕ → Option PieceCursor
 cursor_at run count = Some (record { run = run; count = count })
 
-pub same_cursor : (run count : ℕ) (cursor : Cursor) → ◌≡◌ {A = Option ℕ} (Some run) (Some cursor.run) → ◌≡◌ {A = Option ℕ} (Some count) (Some cursor.count)
-    → ◌≡◌ {A = Option Cursor} (Some (record { run = run; count = count })) (Some cursor)
+pub same_cursor : (run count : ℕ) (cursor : PieceCursor) → ◌≡◌ {A = Option ℕ} (Some run) (Some cursor.run) → ◌≡◌ {A = Option ℕ} (Some count) (Some cursor.count)
+    → ◌≡◌ {A = Option PieceCursor} (Some (record { run = run; count = count })) (Some cursor)
 unfolding cursor_at
 same_cursor run count cursor a b =
     let run_is : run ≡ cursor.run = cc in

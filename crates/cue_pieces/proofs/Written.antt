@@ -4,16 +4,16 @@ use Rattle.std.proofs.lemmas.List.{length-take-le}
 use Rattle.std.proofs.lemmas.Bool.{cases_eq, cases_lt}
 use Rattle.std.specs.Int.{w32, from_be_bytes}
 use Rattle.std.specs.List.{AllByRecursion}
-use Rattle.cue_journal.specs.Blocks.{split_at, next_piece, with_others, recovered_up_to, recovered, block, Fits, StandsFor, IsScanned}
+use Rattle.cue_journal.specs.Blocks.{split_at, next_piece, with_others, recovered_up_to, recovered_pieces, block, FitsInBlock, StandsFor, IsScanned}
 use Rattle.cue_journal.proofs.Reading.{split_whole, split_short, next-closed, stands_nothing, stands_more, stands_alone, stands_block}
 use Rattle.cue_pieces.specs.Lists.{blocks}
 
-blocks_stand : (entries : List (List ℕ)) → AllByRecursion Fits entries → StandsFor (blocks entries) entries
+blocks_stand : (entries : List (List ℕ)) → AllByRecursion FitsInBlock entries → StandsFor (blocks entries) entries
 blocks_stand [] fit = stands_nothing
 blocks_stand (entry ∷ entries) fit =
     stands_more (block entry) (blocks entries) (entry ∷ []) entries (stands_block entry fit.0) (blocks_stand entries fit.1)
 
-pub blocks_read : (entries : List (List ℕ)) → AllByRecursion Fits entries → recovered (blocks entries) ≡ entries
+pub blocks_read : (entries : List (List ℕ)) → AllByRecursion FitsInBlock entries → recovered_pieces (blocks entries) ≡ entries
 blocks_read entries fit = stands_alone (blocks entries) entries (blocks_stand entries fit)
 
 split_size : (n : ℕ) (rest : List ℕ) (found : List ℕ × List ℕ) → split_at n rest ≡ Some found → length found.0 + length found.1 ≡ length rest
@@ -64,8 +64,8 @@ read_size zero file = omega arith
 read_size (suc n) file = with_size (recovered_up_to n) file (next_piece file) (λ rest. read_size n rest) refl
 
 -- written blocks are read to their end
-pub read_whole : (entries : List (List ℕ)) (bytes : List ℕ) (end : ℕ) → AllByRecursion Fits entries → bytes ≡ blocks entries → IsScanned bytes end → length bytes ≤ end
+pub read_whole : (entries : List (List ℕ)) (bytes : List ℕ) (end : ℕ) → AllByRecursion FitsInBlock entries → bytes ≡ blocks entries → IsScanned bytes end → length bytes ≤ end
 read_whole entries bytes end fit is scanned =
-    let front : recovered (take end bytes) ≡ entries = stands_alone (take end bytes) (recovered bytes) scanned.front ∙ ap recovered is ∙ blocks_read entries fit in
+    let front : recovered_pieces (take end bytes) ≡ entries = stands_alone (take end bytes) (recovered_pieces bytes) scanned.front ∙ ap recovered_pieces is ∙ blocks_read entries fit in
     let size : length (blocks entries) ≤ length (take end bytes) = subst (λ (es : List (List ℕ)). length (blocks es) ≤ length (take end bytes)) front (read_size (length (take end bytes)) (take end bytes)) in
     omega (arith, size, ap length is, length-take-le end bytes scanned.within)

@@ -7,9 +7,9 @@ abbrev pub cursor_text : ℕ → ℕ → List ℕ
 cursor_text run count = decimal run ++ 45 ∷ decimal count
 
 -- decimal digits, also with zeros or a plus before them
-abbrev pub Tells : List ℕ → ℕ → Type 0
-Tells digits n = IsNumeral 10 (without_leading_plus digits) × (digits_value 10 (without_leading_plus digits) ≡ n)
+abbrev pub IsDecimalOf : List ℕ → ℕ → Type 0
+IsDecimalOf digits n = IsNumeral 10 (without_leading_plus digits) × (digits_value 10 (without_leading_plus digits) ≡ n)
 
 abbrev pub IsCursor : List ℕ → ℕ → ℕ → Type 0
 IsCursor text run count =
-    (before behind : List ℕ) × (text ≡ before ++ 45 ∷ behind) × Tells before run × Tells behind count
+    (before behind : List ℕ) × (text ≡ before ++ 45 ∷ behind) × IsDecimalOf before run × IsDecimalOf behind count

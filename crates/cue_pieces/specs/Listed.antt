@@ -1,7 +1,7 @@
 -- The pieces that a site accepted in one run, as entries. The oldest are given up, and the others
 -- kept.
 use Rattle.std.specs.Prelude.{◌≡◌, ◌⊎◌, ◌+◌, ◌-◌, ◌≤◌, ◌<◌, ℕ, List, length, drop}
-use Rattle.cue_pieces.specs.Lists.{weight}
+use Rattle.cue_pieces.specs.Lists.{memory_of_pieces}
 
 pub record Listed : Type 0 where
   pub run : ℕ
@@ -13,12 +13,12 @@ abbrev pub next_of : Listed → ℕ
 next_of pieces = pieces.given_up + length pieces.kept
 
 -- they are just the entries of this run
-pub record IsListOf (entries : List (List ℕ)) (pieces : Listed) : Type 0 where
+pub record IsListOfPieces (entries : List (List ℕ)) (pieces : Listed) : Type 0 where
   pub within : pieces.given_up ≤ length entries
   pub kept : pieces.kept ≡ drop pieces.given_up entries
 
 -- all behind the first so many of a run are kept
-pub record Keeps (pieces : Listed) (run count : ℕ) : Type 0 where
+pub record KeepsPieces (pieces : Listed) (run count : ℕ) : Type 0 where
   pub same_run : run ≡ pieces.run
   pub not_given_up : pieces.given_up ≤ count
   pub within : count ≤ next_of pieces
@@ -38,4 +38,4 @@ abbrev pub GivesUpBeyond : ℕ → Listed → Listed → Type 0
 GivesUpBeyond most old new =
     (more : ℕ) × (more ≤ length old.kept)
     × (new ≡ record { run = old.run; given_up = old.given_up + more; kept = drop more old.kept })
-    × ((more ≡ 0) ⊎ (most < weight (drop (more - 1) old.kept)))
+    × ((more ≡ 0) ⊎ (most < memory_of_pieces (drop (more - 1) old.kept)))

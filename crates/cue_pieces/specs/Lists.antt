@@ -8,6 +8,6 @@ blocks [] = []
 blocks (entry ∷ entries) = block entry ++ blocks entries
 
 -- how many bytes of memory they take: their own, and 128 for each
-abbrev pub weight : List (List ℕ) → ℕ
-weight [] = 0
-weight (entry ∷ entries) = length entry + 128 + weight entries
+abbrev pub memory_of_pieces : List (List ℕ) → ℕ
+memory_of_pieces [] = 0
+memory_of_pieces (entry ∷ entries) = length entry + 128 + memory_of_pieces entries

@@ -4,13 +4,13 @@ use std::alloc::{AllocError, Global};
 
 /// A place among the pieces that a site accepted: behind so many of those of one run.
 #[derive(Clone, Copy, Debug, PartialEq, Eq)]
-pub struct Cursor {
+pub struct PieceCursor {
     /// A number that is of this run alone.
     pub run: u64,
     pub count: u64,
 }
 
-impl Cursor {
+impl PieceCursor {
     ghost use Rattle.cue_pieces.specs.Cursors.{cursor_text, IsCursor};
 
     /// The run and the count in decimal digits, with `-` between them.
@@ -21,7 +21,7 @@ impl Cursor {
     }
 
     /// The cursor that a text tells.
-    pub fn read(text: &str) -> Option<Cursor>
+    pub fn read(text: &str) -> Option<PieceCursor>
         ensures some { IfSome result (λ cursor. IsCursor text.now cursor.run cursor.count) }
         ensures written { (cursor : Cursor) → cursor.run < 2 ^ 64 → cursor.count < 2 ^ 64
             → text.now ≡ cursor_text cursor.run cursor.count → result ≡ Some cursor }
@@ -29,6 +29,6 @@ impl Cursor {
         let (run, count) = text.split_once('-')?;
         let run = run.parse::<u64>().ok()?;
         let count = count.parse::<u64>().ok()?;
-        Some(Cursor { run, count })
+        Some(PieceCursor { run, count })
     }
 }

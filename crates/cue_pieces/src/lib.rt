@@ -6,6 +6,6 @@ mod cursor;
 mod list;
 mod reading;
 
-pub use cursor::Cursor;
+pub use cursor::PieceCursor;
 pub use list::{MOST_BYTES, Pieces};
 pub use reading::entries_in;

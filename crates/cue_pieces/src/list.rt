@@ -1,12 +1,12 @@
 ghost use Rattle.std.specs.Prelude.{◌≡◌, ◌+◌, ◌-◌, ◌/◌, ◌≤◌, ◌++◌, ◌∷◌, [], ◌↔◌, ◌==◌, ℕ, List, length};
 ghost use Rattle.std.specs.Prelude.{drop, IfOk, IfSome, IfNone, OnOk, OnErr, IsTrue};
 ghost use Rattle.std.specs.List.{Contains};
-ghost use Rattle.cue_journal.specs.Blocks.{recovered, block, Fits};
-ghost use Rattle.cue_pieces.specs.Listed.{Listed, next_of, Keeps, behind_of, GivesUp};
+ghost use Rattle.cue_journal.specs.Blocks.{recovered_pieces, block, FitsInBlock};
+ghost use Rattle.cue_pieces.specs.Listed.{Listed, next_of, KeepsPieces, behind_of, GivesUp};
 ghost use Rattle.cue_pieces.specs.Listed.{GivesUpBeyond};
-ghost use Rattle.cue_pieces.specs.Lists.{blocks, weight};
+ghost use Rattle.cue_pieces.specs.Lists.{blocks, memory_of_pieces};
 
-use crate::cursor::Cursor;
+use crate::cursor::PieceCursor;
 use bytes::Bytes;
 use std::alloc::{AllocError, Global};
 use std::collections::{BTreeMap, VecDeque};
@@ -61,7 +61,7 @@ fn entry_of(alloc: Global, first: u8, rest: &[u8]) -> Result<Bytes, AllocError>
 
 /// Adds the block of an entry.
 fn add_block(body: &mut Vec<u8>, entry: &[u8]) -> Result<(), AllocError>
-    requires { Fits entry.now }
+    requires { FitsInBlock entry.now }
     ensures { OnOk result (body.new.items ≡ body.old.items ++ block entry.now) }
 {
     let size = (entry.len() as u32).to_be_bytes();
@@ -86,11 +86,11 @@ impl Pieces {
     }
 
     /// The place behind all.
-    pub fn cursor(&self) -> Cursor
+    pub fn cursor(&self) -> PieceCursor
         ensures run { result.run ≡ self.now.run }
         ensures count { result.count ≡ next_of self.now }
     {
-        Cursor {
+        PieceCursor {
             run: self.run,
             count: self.given_up + self.kept.len() as u64,
         }
@@ -105,7 +105,7 @@ impl Pieces {
 
     /// Whether an entry is found among those that are kept. One that stands there more than once is
     /// not found any more when the first of them is given up.
-    pub fn knows(&self, entry: &[u8]) -> Result<bool, AllocError>
+    pub fn contains_entry(&self, entry: &[u8]) -> Result<bool, AllocError>
         ensures { IfOk result (λ known. IsTrue known → Contains self.now.kept entry.now) }
     {
         let key = Bytes::from_vec(Vec::from_slice(self.alloc, entry)?)?;
@@ -113,7 +113,7 @@ impl Pieces {
     }
 
     /// Whether the entry that begins with this byte is found among those that are kept.
-    pub fn has(&self, first: u8, rest: &[u8]) -> Result<bool, AllocError>
+    pub fn contains_parts(&self, first: u8, rest: &[u8]) -> Result<bool, AllocError>
         ensures { IfOk result (λ known. IsTrue known → Contains self.now.kept (first ∷ rest.now)) }
     {
         let key = entry_of(self.alloc, first, rest)?;
@@ -186,7 +186,7 @@ impl Pieces {
     pub fn trim(&mut self)
         ensures gives_up { GivesUp self.old self.new }
         ensures needed { GivesUpBeyond 16777216 self.old self.new }
-        ensures bound { weight self.new.kept ≤ 16777216 }
+        ensures bound { memory_of_pieces self.new.kept ≤ 16777216 }
     {
         self.shrink_to(MOST_BYTES);
     }
@@ -194,7 +194,7 @@ impl Pieces {
     /// Gives up the oldest, until the others take half of the memory that all took.
     pub fn halve(&mut self)
         ensures gives_up { GivesUp self.old self.new }
-        ensures bound { weight self.new.kept ≤ weight self.old.kept / 2 }
+        ensures bound { memory_of_pieces self.new.kept ≤ memory_of_pieces self.old.kept / 2 }
     {
         self.shrink_to(self.size / 2);
     }
@@ -203,7 +203,7 @@ impl Pieces {
     fn shrink_to(&mut self, most: usize)
         ensures gives_up { GivesUp self.old self.new }
         ensures needed { GivesUpBeyond most self.old self.new }
-        ensures bound { weight self.new.kept ≤ most }
+        ensures bound { memory_of_pieces self.new.kept ≤ most }
     {
         while self.size > most {
             let Some(oldest) = self.kept.pop_front() else {
@@ -216,10 +216,10 @@ impl Pieces {
     }
 
     /// Where the pieces behind a cursor begin among those that are kept.
-    fn place_of(&self, cursor: Cursor) -> Option<usize>
-        ensures some { IfSome result (λ place. Keeps self.now cursor.run cursor.count
+    fn place_of(&self, cursor: PieceCursor) -> Option<usize>
+        ensures some { IfSome result (λ place. KeepsPieces self.now cursor.run cursor.count
             × (place ≡ cursor.count - self.now.given_up)) }
-        ensures none { IfNone result (¬ Keeps self.now cursor.run cursor.count) }
+        ensures none { IfNone result (¬ KeepsPieces self.now cursor.run cursor.count) }
     {
         if cursor.run != self.run || cursor.count < self.given_up {
             return None;
@@ -233,11 +233,11 @@ impl Pieces {
 
     /// The blocks of all pieces behind a cursor, as those of a journal; none where not all of them
     /// are kept, or it is of another run.
-    pub fn behind(&self, cursor: Cursor) -> Result<Option<Vec<u8>>, AllocError>
-        ensures some { IfOk result (λ found. IfSome found (λ body. Keeps self.now cursor.run cursor.count
+    pub fn blocks_behind(&self, cursor: PieceCursor) -> Result<Option<Vec<u8>>, AllocError>
+        ensures some { IfOk result (λ found. IfSome found (λ body. KeepsPieces self.now cursor.run cursor.count
             × (body.items ≡ blocks (behind_of self.now cursor.count))
-            × (recovered body.items ≡ behind_of self.now cursor.count))) }
-        ensures none { IfOk result (λ found. IfNone found (¬ Keeps self.now cursor.run cursor.count)) }
+            × (recovered_pieces body.items ≡ behind_of self.now cursor.count))) }
+        ensures none { IfOk result (λ found. IfNone found (¬ KeepsPieces self.now cursor.run cursor.count)) }
     {
         let Some(place) = self.place_of(cursor) else {
             return Ok(None);

@@ -6,12 +6,12 @@ use Rattle.std.proofs.lemmas.List.{take-map}
 use Rattle.cue_lattice.specs.Path.{Step, label, index, Path}
 use Rattle.cue_lattice.specs.Question.{Question, Refusals, allows}
 use Rattle.cue_report.specs.Answers.{HasNoValue, IsNotAllowed}
-use Rattle.cue_report.specs.Export.{beyond}
+use Rattle.cue_report.specs.Export.{refused_below}
 use Rattle.cue_row.specs.Steps.{step_of}
 use Rattle.cue_row.specs.declared.step.Step.{Step as Code}
 use Rattle.cue_row.specs.declared.parts.RowParts.{RowParts as Row}
 use Rattle.cue_table.specs.Tree.{Tree, step_into}
-use Rattle.cue_places.specs.Places.{HasNoKind, IsBar, IsFree, IsFirstBar}
+use Rattle.cue_places.specs.Places.{HasNoKind, IsBar, IsFreePlace, IsFirstBar}
 use Rattle.cue_places.specs.Inner.Bars.{IsBarOf}
 use Rattle.cue_places.specs.declared.bars.Bar.{Bar}
 use Rattle.cue_places.proofs.Lists.{not_nil}
@@ -20,7 +20,7 @@ use Rattle.cue_places.proofs.Seen.{Told, Nothing, below_found, below_none}
 pub root_allowed : (refuses : Refusals) → ¬ IsNotAllowed refuses []
 root_allowed refuses h = not_nil h.0 (label h.1) [] h.2
 
-pub root_free : (refuses : Refusals) → IsFree refuses []
+pub root_free : (refuses : Refusals) → IsFreePlace refuses []
 root_free refuses [] [] e h = ⊎_elim (root_allowed refuses) (λ k. k.0 refl) h
 root_free refuses [] (s ∷ after) e h = cc
 root_free refuses (x ∷ place) after e h = cc
@@ -29,10 +29,10 @@ root_bar : (refuses : Refusals) (after : Path) → ¬ HasNoKind refuses [] → �
 root_bar refuses after kind h = ⊎_elim (root_allowed refuses) (λ k. kind k.1) h
 
 module _ (refuses : Refusals) (step : Step) (allowed : ¬ IsNotAllowed refuses (step ∷ [])) where
-  label_down : (place : Path) → IsNotAllowed refuses (step ∷ place) → IsNotAllowed (beyond refuses step) place
+  label_down : (place : Path) → IsNotAllowed refuses (step ∷ place) → IsNotAllowed (refused_below refuses step) place
   label_down place h = by h.0 h.1 h.2 h.3
     where
-      by : (above : Path) (text : List ℕ) → step ∷ place ≡ above ++ label text ∷ [] → refuses above (allows text) → IsNotAllowed (beyond refuses step) place
+      by : (above : Path) (text : List ℕ) → step ∷ place ≡ above ++ label text ∷ [] → refuses above (allows text) → IsNotAllowed (refused_below refuses step) place
       by [] text e r =
           let same : step ≡ label text = cc in
           absurd (allowed ([], text, ap (λ s. s ∷ []) same, r))
@@ -41,16 +41,16 @@ module _ (refuses : Refusals) (step : Step) (allowed : ¬ IsNotAllowed refuses (
           let rest : place ≡ above ++ label text ∷ [] = cc in
           (above, text, rest, subst (λ s. refuses (s ∷ above) (allows text)) (sym same) r)
 
-  label_up : (place : Path) → IsNotAllowed (beyond refuses step) place → IsNotAllowed refuses (step ∷ place)
+  label_up : (place : Path) → IsNotAllowed (refused_below refuses step) place → IsNotAllowed refuses (step ∷ place)
   label_up place h = (step ∷ h.0, h.1, ap (λ p. step ∷ p) h.2, h.3)
 
-  bar_down : (place after : Path) → IsBar refuses (step ∷ place) after → IsBar (beyond refuses step) place after
+  bar_down : (place after : Path) → IsBar refuses (step ∷ place) after → IsBar (refused_below refuses step) place after
   bar_down place after h = ⊎_elim (λ l. inl (label_down place l)) (λ k. inr k) h
 
-  bar_up : (place after : Path) → IsBar (beyond refuses step) place after → IsBar refuses (step ∷ place) after
+  bar_up : (place after : Path) → IsBar (refused_below refuses step) place after → IsBar refuses (step ∷ place) after
   bar_up place after h = ⊎_elim (λ l. inl (label_up place l)) (λ k. inr k) h
 
-  pub free_further : ¬ HasNoKind refuses [] → (path : Path) → IsFree (beyond refuses step) path → IsFree refuses (step ∷ path)
+  pub free_further : ¬ HasNoKind refuses [] → (path : Path) → IsFreePlace (refused_below refuses step) path → IsFreePlace refuses (step ∷ path)
   free_further kind path free [] after e h = root_bar refuses after kind h
   free_further kind path free (x ∷ place) after e h =
       let same : step ≡ x = cc in
@@ -58,7 +58,7 @@ module _ (refuses : Refusals) (step : Step) (allowed : ¬ IsNotAllowed refuses (
       free place after rest (bar_down place after (subst (λ s. IsBar refuses (s ∷ place) after) (sym same) h))
 
   pub bar_further : ¬ HasNoKind refuses [] → (path : Path) (depth : ℕ) (no_value not_allowed : Bool)
-      → IsFirstBar (beyond refuses step) path (record { path = take depth path; no_value = no_value; not_allowed = not_allowed })
+      → IsFirstBar (refused_below refuses step) path (record { path = take depth path; no_value = no_value; not_allowed = not_allowed })
       → IsFirstBar refuses (step ∷ path) (record { path = step ∷ take depth path; no_value = no_value; not_allowed = not_allowed })
   bar_further kind path depth no_value not_allowed h = record {
     after = h.after;
@@ -77,7 +77,7 @@ module _ (refuses : Refusals) (step : Step) (allowed : ¬ IsNotAllowed refuses (
           h.first place behind s rest (bar_down place (s ∷ behind ++ h.after) (subst (λ t. IsBar refuses (t ∷ place) (s ∷ behind ++ h.after)) (sym same) b))
 
 -- nothing bars a path below a place of which nothing is known
-nothing_free : (path : Path) → IsFree Nothing path
+nothing_free : (path : Path) → IsFreePlace Nothing path
 nothing_free path place after e h = ⊎_elim (λ l. l.3) (λ k. k.1.1) h
 
 no_cons : (s : Step) (p : Path) → s ∷ p ≡ [] → ⊥
@@ -121,14 +121,14 @@ bar_found tree next steps step path bar cut e kind allowed h =
     subst P (sym cut) (bar_further (Told tree) step allowed kind path bar.depth bar.no_value bar.not_allowed there)
 
 pub free_found : (tree next : Tree Row) (steps : Path) (step : Step) (path : Path) → steps ≡ step ∷ path → step_into tree step ≡ Some next → ¬ HasNoKind (Told tree) []
-    → ¬ IsNotAllowed (Told tree) (step ∷ []) → IsFree (Told next) path → IsFree (Told tree) steps
+    → ¬ IsNotAllowed (Told tree) (step ∷ []) → IsFreePlace (Told next) path → IsFreePlace (Told tree) steps
 free_found tree next steps step path cut e kind allowed h =
-    subst (IsFree (Told tree)) (sym cut) (free_further (Told tree) step allowed kind path (subst (λ (refuses : Refusals). IsFree refuses path) (sym (below_found tree next step e)) h))
+    subst (IsFreePlace (Told tree)) (sym cut) (free_further (Told tree) step allowed kind path (subst (λ (refuses : Refusals). IsFreePlace refuses path) (sym (below_found tree next step e)) h))
 
 pub free_none : (tree : Tree Row) (steps : Path) (step : Step) (path : Path) → steps ≡ step ∷ path → step_into tree step ≡ None → ¬ HasNoKind (Told tree) []
-    → ¬ IsNotAllowed (Told tree) (step ∷ []) → IsFree (Told tree) steps
+    → ¬ IsNotAllowed (Told tree) (step ∷ []) → IsFreePlace (Told tree) steps
 free_none tree steps step path cut e kind allowed =
-    subst (IsFree (Told tree)) (sym cut) (free_further (Told tree) step allowed kind path (subst (λ (refuses : Refusals). IsFree refuses path) (sym (below_none tree step e)) (nothing_free path)))
+    subst (IsFreePlace (Told tree)) (sym cut) (free_further (Told tree) step allowed kind path (subst (λ (refuses : Refusals). IsFreePlace refuses path) (sym (below_none tree step e)) (nothing_free path)))
 
 pub found_barred : (tree root : Tree Row) (steps : List Code) (bar : Bar) (items : List Code) (path : Path) → root ≡ tree → IsBarOf (Told root) (map step_of steps) bar → items ≡ take bar.depth steps → path ≡ map step_of items
     → IsFirstBar (Told tree) (map step_of steps) (record { path = path; no_value = bar.no_value; not_allowed = bar.not_allowed })

@@ -4,18 +4,18 @@ use Rattle.std.specs.Prelude.{IfSome, IfOk, Result, Ok, Err}
 use Rattle.cue_lattice.specs.Limits.{step_limit}
 use Rattle.cue_lattice.specs.Path.{Step, Path}
 use Rattle.cue_lattice.specs.Question.{Question, Refusals}
-use Rattle.cue_policies.specs.View.{IsLevel}
+use Rattle.cue_policies.specs.View.{IsLevelInView}
 use Rattle.cue_policies.proofs.Branches.{added_answer}
 use Rattle.cue_policies.proofs.ValidRows.{loose_row}
 use Rattle.cue_row.specs.Made.{at_level}
 use Rattle.cue_row.specs.Row as rows
-use Rattle.cue_row.specs.Row.{Refuses}
+use Rattle.cue_row.specs.Row.{RefusesAsked}
 use Rattle.cue_row.specs.declared.level.Level.TheVariants.{Optional}
 use Rattle.cue_row.specs.declared.parts.RowParts.{RowParts as Row}
 use Rattle.cue_table.specs.Depth.{tree_depth}
 use Rattle.cue_table.specs.Meet.{IsAdded}
 use Rattle.cue_table.specs.Refuses.{RowRefuses}
-use Rattle.cue_table.specs.Tree.{Tree, node, empty, row_of, below, rest_of, step_into}
+use Rattle.cue_table.specs.Tree.{Tree, node, empty, row_of, below, rest_below, step_into}
 use Rattle.cue_table.proofs.Depth.{depth_with}
 use Rattle.cue_places.specs.Places.{IsRootAt}
 use Rattle.cue_places.proofs.Seen.{Told, Nothing, below_found, below_none}
@@ -28,20 +28,20 @@ found_limit tree step None h e = tt
 found_limit tree step (Some next) h e = let less = step_depth tree next step (sym e) in omega (arith, less, h)
 
 -- ---- a place itself
-without_row : (tree : Tree Row) (step : Step) (path : Path) (question : Question) → Told (node None (below tree) (rest_of tree)) (step ∷ path) question ↔ Told tree (step ∷ path) question
+without_row : (tree : Tree Row) (step : Step) (path : Path) (question : Question) → Told (node None (below tree) (rest_below tree)) (step ∷ path) question ↔ Told tree (step ∷ path) question
 without_row (node row children rest) step path question = (λ h. h, λ h. h)
 
 no_cons : (s : Step) (p : Path) → s ∷ p ≡ [] → ⊥
 no_cons s p e = cc
 
 -- the row of a place is met again, of no level
-pub loose_root : (tree old new : Tree Row) (row : Row) → row_of tree ≡ Some row → old ≡ node None (below tree) (rest_of tree) → IsAdded Refuses old [] (at_level Optional row) new
+pub loose_root : (tree old new : Tree Row) (row : Row) → row_of tree ≡ Some row → old ≡ node None (below tree) (rest_below tree) → IsAdded RefusesAsked old [] (at_level Optional row) new
     → IsRootAt (Told tree) [] (Told new)
 loose_root tree old new row e bare added [] question =
     let here = added_answer old new (at_level Optional row) added [] question in
     let loose = loose_row row question in
     let none : Told old [] question → ⊥ = λ h. subst (λ t. Told t [] question) bare h in
-    let P : Option Row → Type 0 = λ o. RowRefuses rows.RowRefuses o question in (
+    let P : Option Row → Type 0 = λ o. RowRefuses rows.RowRefusesQuestion o question in (
       λ h. ⊎_elim (λ o. absurd (none o)) (λ r. let both = loose.0 r.1 in (subst P (sym e) both.0, λ l. both.1 l.1)) (here.0 h),
       λ h. here.1 (inr (refl, loose.1 (subst P e h.0, λ l. h.1 (refl, l)))),
     )
@@ -54,10 +54,10 @@ loose_root tree old new row e bare added (step ∷ path) question =
     )
 
 -- without a row the place is as it was
-pub bare_root : (tree new : Tree Row) → row_of tree ≡ None → new ≡ node None (below tree) (rest_of tree) → IsRootAt (Told tree) [] (Told new)
+pub bare_root : (tree new : Tree Row) → row_of tree ≡ None → new ≡ node None (below tree) (rest_below tree) → IsRootAt (Told tree) [] (Told new)
 bare_root tree new e bare [] question =
     let none : Told new [] question → ⊥ = λ h. subst (λ t. Told t [] question) bare h in
-    let P : Option Row → Type 0 = λ o. RowRefuses rows.RowRefuses o question in
+    let P : Option Row → Type 0 = λ o. RowRefuses rows.RowRefusesQuestion o question in
     (λ h. absurd (none h), λ h. absurd (subst P e h.0))
 bare_root tree new e bare (step ∷ path) question =
     let same = without_row tree step path question in

@@ -12,7 +12,7 @@ use Rattle.cue_report.proofs.Rows.{no_value_is}
 use Rattle.cue_row.specs.Kinds.{IsEmptySet}
 use Rattle.cue_row.specs.LabelSets.{allows_label}
 use Rattle.cue_row.specs.Row as rows
-use Rattle.cue_row.specs.Row.{Refuses, IsRow}
+use Rattle.cue_row.specs.Row.{RefusesAsked, IsRow}
 use Rattle.cue_row.specs.declared.parts.RowParts.{RowParts as Row}
 use Rattle.cue_table.specs.Form.{IsTable}
 use Rattle.cue_table.specs.Refuses.{RowRefuses}
@@ -31,13 +31,13 @@ no_kind_is row empty form l s e = (
 -- ---- a place without a row
 pub none_value : (tree : Tree Row) → row_of tree ≡ None → IsTrue false ↔ HasNoValue (Told tree) []
 none_value tree e =
-    let P : Option Row → Type 0 = λ row. IsTrue (has_no_value row) ↔ HasNoValue (λ path. RowRefuses rows.RowRefuses row) [] in
-    let Q : Option Row → Type 0 = λ row. IsTrue false ↔ HasNoValue (λ path. RowRefuses rows.RowRefuses row) [] in
+    let P : Option Row → Type 0 = λ row. IsTrue (has_no_value row) ↔ HasNoValue (λ path. RowRefuses rows.RowRefusesQuestion row) [] in
+    let Q : Option Row → Type 0 = λ row. IsTrue false ↔ HasNoValue (λ path. RowRefuses rows.RowRefusesQuestion row) [] in
     subst Q (sym e) (no_value_is None tt)
 
 pub some_value : (tree : Tree Row) (row : Row) (found : Bool) → row_of tree ≡ Some row → IsRow row → found ≡ lacks_value row → IsTrue found ↔ HasNoValue (Told tree) []
 some_value tree row found e form is =
-    let Q : Option Row → Type 0 = λ r. IsTrue found ↔ HasNoValue (λ path. RowRefuses rows.RowRefuses r) [] in
+    let Q : Option Row → Type 0 = λ r. IsTrue found ↔ HasNoValue (λ path. RowRefuses rows.RowRefusesQuestion r) [] in
     let here = no_value_is (Some row) form in
     subst Q (sym e) (λ t. here.0 (sym is ∙ t), λ h. is ∙ here.1 h)
 
@@ -74,7 +74,7 @@ index_allowed tree step n e h = last_index (Told tree) n (subst (λ s. IsNotAllo
 pub label_none : (tree : Tree Row) (step : paths.Step) (text : List ℕ) → step ≡ label text → row_of tree ≡ None → ¬ IsNotAllowed (Told tree) (step ∷ [])
 label_none tree step text e none h =
     let at = (last_label (Told tree) text).0 (subst (λ s. IsNotAllowed (Told tree) (s ∷ [])) e h) in
-    subst (λ row. RowRefuses rows.RowRefuses row (allows text)) none at
+    subst (λ row. RowRefuses rows.RowRefusesQuestion row (allows text)) none at
 
 not_is : (b : Bool) → IsTrue (not b) ↔ (b ≡ false)
 not_is true = (λ t. absurd (false≢true t), λ e. absurd (false≢true (sym e)))
@@ -89,10 +89,10 @@ label_some tree step text row found e some is =
     at : IsNotAllowed (Told tree) (label text ∷ []) ↔ (allows_label row.labels text ≡ false)
     at =
         let last = last_label (Told tree) text in
-        let P : Option Row → Type 0 = λ r. RowRefuses rows.RowRefuses r (allows text) in
+        let P : Option Row → Type 0 = λ r. RowRefuses rows.RowRefusesQuestion r (allows text) in
         (λ h. subst P some (last.0 h), λ r. last.1 (subst P (sym some) r))
 
 -- the row of a place in form is one
-pub row_kept : (tree : Tree Row) (row : Row) → IsTable Refuses IsRow tree → row_of tree ≡ Some row → IsRow row
+pub row_kept : (tree : Tree Row) (row : Row) → IsTable RefusesAsked IsRow tree → row_of tree ≡ Some row → IsRow row
 row_kept (node None children rest) row form e = cc
 row_kept (node (Some own) children rest) row form e = let same : own ≡ row = cc in subst IsRow same form.0.0

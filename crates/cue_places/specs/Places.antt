@@ -2,28 +2,28 @@
 use Rattle.std.specs.Prelude.{◌≡◌, ◌≢◌, ◌↔◌, ◌⊎◌, IsTrue, [], ◌∷◌, ◌++◌}
 use Rattle.cue_lattice.specs.Path.{Step, label, index, Path}
 use Rattle.cue_lattice.specs.Question.{Question, Refusals, struct, list, length_at_most}
-use Rattle.cue_policies.specs.View.{IsLevel}
-use Rattle.cue_report.specs.Answers.{further, HasNoScalar, HasNoValue, IsNotAllowed}
+use Rattle.cue_policies.specs.View.{IsLevelInView}
+use Rattle.cue_report.specs.Answers.{path_below, HasNoScalar, HasNoValue, IsNotAllowed}
 use Rattle.cue_report.specs.declared.conflict.Conflict.{Conflict}
-use Rattle.cue_row.specs.Row.{RowRefuses}
+use Rattle.cue_row.specs.Row.{RowRefusesQuestion}
 use Rattle.cue_table.specs.Refuses.{TableRefuses}
-use Rattle.cue_places.specs.declared.lookup.Found.{Found}
-use Rattle.cue_places.specs.declared.lookup.Found.TheVariants.{Absent, Barred, Root}
+use Rattle.cue_places.specs.declared.lookup.Lookup.{Lookup}
+use Rattle.cue_places.specs.declared.lookup.Lookup.TheVariants.{Absent, Barred, Root}
 
 -- something is refused at the path or below it
-abbrev pub IsKnown : Refusals → Path → Type 0
-IsKnown refuses path =
+abbrev pub IsKnownPlace : Refusals → Path → Type 0
+IsKnownPlace refuses path =
     ¬ ((below : Path) (question : Question) → ¬ refuses (path ++ below) question)
 
 -- A step from a place is declared: that of a label where something is refused at the label or below
 -- it, and that of an index where no list is as short as it.
 abbrev pub IsStepDeclared : Refusals → Path → Step → Type 0
-IsStepDeclared refuses place (label text) = IsKnown refuses (further place (label text))
+IsStepDeclared refuses place (label text) = IsKnownPlace refuses (path_below place (label text))
 IsStepDeclared refuses place (index n) = refuses place (length_at_most n)
 
 -- A path is declared where each of its steps is. So the root is.
-abbrev pub IsDeclared : Refusals → Path → Type 0
-IsDeclared refuses path =
+abbrev pub IsDeclaredPlace : Refusals → Path → Type 0
+IsDeclaredPlace refuses path =
     (before after : Path) (step : Step) → path ≡ before ++ step ∷ after
     → IsStepDeclared refuses before step
 
@@ -38,8 +38,8 @@ IsBar refuses place after =
     IsNotAllowed refuses place ⊎ ((after ≢ []) × HasNoKind refuses place)
 
 -- no place of the path bars it
-abbrev pub IsFree : Refusals → Path → Type 0
-IsFree refuses path = (place after : Path) → path ≡ place ++ after → ¬ IsBar refuses place after
+abbrev pub IsFreePlace : Refusals → Path → Type 0
+IsFreePlace refuses path = (place after : Path) → path ≡ place ++ after → ¬ IsBar refuses place after
 
 -- The conflict is at the first place that bars the path, and has the causes that a report has.
 pub record IsFirstBar (refuses : Refusals) (path : Path) (conflict : Conflict) : Type 0 where
@@ -56,14 +56,14 @@ pub record IsFirstBar (refuses : Refusals) (path : Path) (conflict : Conflict) :
 abbrev pub IsRootAt : Refusals → Path → Refusals → Type 0
 IsRootAt refuses path root =
     (below : Path) (question : Question)
-    → root below question ↔ (refuses (path ++ below) question × ¬ ((below ≡ []) × IsLevel question))
+    → root below question ↔ (refuses (path ++ below) question × ¬ ((below ≡ []) × IsLevelInView question))
 
 -- What is found at a path: that it is not declared; that it is, and where it is barred; or the
 -- place as a root of its own.
-abbrev pub IsFound : Refusals → Path → Found → Type 0
-IsFound refuses path Absent = ¬ IsDeclared refuses path
-IsFound refuses path (Barred conflict) =
-    IsDeclared refuses path × IsFirstBar refuses path conflict
-IsFound refuses path (Root table) =
-    IsDeclared refuses path × IsFree refuses path
-    × IsRootAt refuses path (TableRefuses RowRefuses table)
+abbrev pub IsFoundPlace : Refusals → Path → Lookup → Type 0
+IsFoundPlace refuses path Absent = ¬ IsDeclaredPlace refuses path
+IsFoundPlace refuses path (Barred conflict) =
+    IsDeclaredPlace refuses path × IsFirstBar refuses path conflict
+IsFoundPlace refuses path (Root table) =
+    IsDeclaredPlace refuses path × IsFreePlace refuses path
+    × IsRootAt refuses path (TableRefuses RowRefusesQuestion table)

@@ -2,11 +2,11 @@
 ghost use Rattle.std.specs.Prelude.{◌≡◌, ◌↔◌, ◌≤◌, [], ◌∷◌, length, map, IfNone, IfSome, IsTrue};
 ghost use Rattle.cue_report.specs.Answers.{HasNoValue, IsNotAllowed};
 ghost use Rattle.cue_report.specs.Inner.Search as search;
-ghost use Rattle.cue_row.specs.Row.{IsRow, RowRefuses};
+ghost use Rattle.cue_row.specs.Row.{IsRow, RowRefusesQuestion};
 ghost use Rattle.cue_row.specs.Steps.{step_of};
 ghost use Rattle.cue_table.specs.Refuses.{TableRefuses};
 ghost use Rattle.cue_places.specs.Inner.Bars.{IsBarOf, at_row};
-ghost use Rattle.cue_places.specs.Places.{HasNoKind, IsFree};
+ghost use Rattle.cue_places.specs.Places.{HasNoKind, IsFreePlace};
 
 use cue_lattice::Narrow;
 use cue_row::{Row, Step};
@@ -26,9 +26,9 @@ pub(crate) struct Bar {
 pub(crate) fn first_bar(branch: &Branch<Row>, steps: &[Step]) -> Option<Bar>
     ensures deep { IfSome result (λ bar. bar.depth ≤ length steps.now) }
     ensures some { IfSome result
-        (IsBarOf (TableRefuses RowRefuses branch.now) (map step_of steps.now)) }
+        (IsBarOf (TableRefuses RowRefusesQuestion branch.now) (map step_of steps.now)) }
     ensures none { IfNone result
-        (IsFree (TableRefuses RowRefuses branch.now) (map step_of steps.now)) }
+        (IsFreePlace (TableRefuses RowRefusesQuestion branch.now) (map step_of steps.now)) }
 {
     match steps {
         [] => None,
@@ -61,7 +61,7 @@ pub(crate) fn first_bar(branch: &Branch<Row>, steps: &[Step]) -> Option<Bar>
 /// Whether a place does not allow the label of a step.
 fn is_refused(branch: &Branch<Row>, step: &Step) -> bool
     ensures { IsTrue result
-        ↔ IsNotAllowed (TableRefuses RowRefuses branch.now) (step_of step.now ∷ []) }
+        ↔ IsNotAllowed (TableRefuses RowRefusesQuestion branch.now) (step_of step.now ∷ []) }
 {
     match step {
         Step::Index(_) => false,
@@ -74,7 +74,7 @@ fn is_refused(branch: &Branch<Row>, step: &Step) -> bool
 
 /// Whether no scalar, struct or list may be at a place.
 fn has_no_kind(branch: &Branch<Row>) -> bool
-    ensures { IsTrue result ↔ HasNoKind (TableRefuses RowRefuses branch.now) [] }
+    ensures { IsTrue result ↔ HasNoKind (TableRefuses RowRefusesQuestion branch.now) [] }
 {
     match branch.row() {
         None => false,
@@ -99,7 +99,7 @@ fn is_of_no_kind(row: &Row) -> bool
 /// Whether no value may be one step below a place.
 fn has_no_value_at(branch: &Branch<Row>, step: &Step) -> bool
     ensures { IsTrue result
-        ↔ HasNoValue (TableRefuses RowRefuses branch.now) (step_of step.now ∷ []) }
+        ↔ HasNoValue (TableRefuses RowRefusesQuestion branch.now) (step_of step.now ∷ []) }
 {
     match branch.find(step) {
         None => false,
@@ -109,7 +109,7 @@ fn has_no_value_at(branch: &Branch<Row>, step: &Step) -> bool
 
 /// Whether no value may be at a place: no scalar, struct or list, or a list of no length.
 fn has_no_value(branch: &Branch<Row>) -> bool
-    ensures { IsTrue result ↔ HasNoValue (TableRefuses RowRefuses branch.now) [] }
+    ensures { IsTrue result ↔ HasNoValue (TableRefuses RowRefusesQuestion branch.now) [] }
 {
     match branch.row() {
         None => false,

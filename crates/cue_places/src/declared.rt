@@ -1,9 +1,9 @@
 //! Whether a path is declared.
 ghost use Rattle.std.specs.Prelude.{◌↔◌, [], map, IsTrue};
-ghost use Rattle.cue_row.specs.Row.{RowRefuses};
+ghost use Rattle.cue_row.specs.Row.{RowRefusesQuestion};
 ghost use Rattle.cue_row.specs.Steps.{step_of};
 ghost use Rattle.cue_table.specs.Refuses.{TableRefuses};
-ghost use Rattle.cue_places.specs.Places.{IsDeclared, IsStepDeclared};
+ghost use Rattle.cue_places.specs.Places.{IsDeclaredPlace, IsStepDeclared};
 
 use cue_row::{Row, Step};
 use cue_table::Branch;
@@ -11,7 +11,7 @@ use cue_table::Branch;
 /// Whether each step of a path from a place is declared.
 pub(crate) fn is_declared(branch: &Branch<Row>, steps: &[Step]) -> bool
     ensures { IsTrue result
-        ↔ IsDeclared (TableRefuses RowRefuses branch.now) (map step_of steps.now) }
+        ↔ IsDeclaredPlace (TableRefuses RowRefusesQuestion branch.now) (map step_of steps.now) }
 {
     match steps {
         [] => true,
@@ -30,7 +30,7 @@ pub(crate) fn is_declared(branch: &Branch<Row>, steps: &[Step]) -> bool
 /// Whether a step from a place is declared.
 fn is_step_declared(branch: &Branch<Row>, step: &Step) -> bool
     ensures { IsTrue result
-        ↔ IsStepDeclared (TableRefuses RowRefuses branch.now) [] (step_of step.now) }
+        ↔ IsStepDeclared (TableRefuses RowRefusesQuestion branch.now) [] (step_of step.now) }
 {
     match step {
         Step::Label(_) => branch.find(step).is_some(),

@@ -13,6 +13,6 @@ pub use cue_lattice::Memory;
 pub use cue_report::Conflict;
 pub use cue_row::{Row, Step};
 pub use cue_table::Table;
-pub use lookup::{Found, place_at};
+pub use lookup::{Lookup, place_at};
 pub use spelled::read_path;
 pub use value::{is_file, value_text};

@@ -1,7 +1,7 @@
 //! A place as a root of its own.
 ghost use Rattle.std.specs.Prelude.{◌≡◌, ◌≤◌, [], map, IfOk, IfSome};
 ghost use Rattle.cue_lattice.specs.Limits.{step_limit};
-ghost use Rattle.cue_row.specs.Row.{RowRefuses};
+ghost use Rattle.cue_row.specs.Row.{RowRefusesQuestion};
 ghost use Rattle.cue_row.specs.Steps.{step_of};
 ghost use Rattle.cue_table.specs.Depth.{tree_depth};
 ghost use Rattle.cue_table.specs.Refuses.{TableRefuses};
@@ -20,8 +20,8 @@ pub(crate) fn root_at(
     steps: &[Step],
 ) -> Result<Table<Row>, Memory>
     requires { tree_depth branch.now ≤ step_limit }
-    ensures { IfOk result (λ table. IsRootAt (TableRefuses RowRefuses branch.now)
-        (map step_of steps.now) (TableRefuses RowRefuses table)) }
+    ensures { IfOk result (λ table. IsRootAt (TableRefuses RowRefusesQuestion branch.now)
+        (map step_of steps.now) (TableRefuses RowRefusesQuestion table)) }
 {
     match steps {
         [] => as_root(alloc, branch),
@@ -44,8 +44,8 @@ fn next_below<'a>(branch: &Branch<'a, Row>, step: &Step) -> Option<Branch<'a, Ro
 /// A place as a root of its own.
 fn as_root(alloc: Global, branch: &Branch<Row>) -> Result<Table<Row>, Memory>
     requires { tree_depth branch.now ≤ step_limit }
-    ensures { IfOk result (λ table. IsRootAt (TableRefuses RowRefuses branch.now) []
-        (TableRefuses RowRefuses table)) }
+    ensures { IfOk result (λ table. IsRootAt (TableRefuses RowRefusesQuestion branch.now) []
+        (TableRefuses RowRefusesQuestion table)) }
 {
     let mut table = branch.to_table(alloc)?;
     match table.take_row() {

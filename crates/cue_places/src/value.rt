@@ -4,25 +4,25 @@ ghost use Rattle.std.specs.Option.{option_map};
 ghost use Rattle.cue_lattice.specs.Limits.{step_limit};
 ghost use Rattle.cue_print.specs.Printed.{value_of};
 ghost use Rattle.cue_print.specs.Spelled as spelled;
-ghost use Rattle.cue_row.specs.Kinds.{IsKind};
-ghost use Rattle.cue_row.specs.Quoted.{quoted};
+ghost use Rattle.cue_row.specs.Kinds.{IsRowKind};
+ghost use Rattle.cue_row.specs.Quoted.{quote_text};
 ghost use Rattle.cue_row.specs.declared.kind.RowKind.TheVariants as kinds;
 ghost use Rattle.cue_table.specs.Depth.{tree_depth};
-ghost use Rattle.cue_table.specs.Form.{IsTaken};
+ghost use Rattle.cue_table.specs.Form.{IsTreeTaken};
 ghost use Rattle.cue_table.specs.Tree.{row_of};
 ghost use Rattle.cue_table.specs.Valid.{IsOpenStruct};
 ghost use Rattle.cue_places.specs.Inner.Fields.{name, one_field};
-ghost use Rattle.cue_places.specs.Values.{IsFile};
+ghost use Rattle.cue_places.specs.Values.{IsFileValue};
 
 use cue_lattice::{Memory, Narrow, STEP_LIMIT, Text};
 use cue_print::print;
-use cue_row::{Labels, Level, Row, Step};
+use cue_row::{LabelSet, Level, Row, Step};
 use cue_table::Table;
 use std::alloc::Global;
 
 /// Whether a table is printed as a file: an open struct is at its root, or anything may be.
 pub fn is_file(table: &Table<Row>) -> bool
-    ensures { IsTrue result ↔ IsFile table.now }
+    ensures { IsTrue result ↔ IsFileValue table.now }
 {
     match table.root().row() {
         None => true,
@@ -62,18 +62,18 @@ fn text_at(alloc: Global, table: &Table<Row>, level: Level) -> Result<String, Me
 
 /// What is printed behind the label of the field and the mark of its level.
 fn value_in(alloc: Global, field: &str, level: Level) -> Result<String, Memory>
-    ensures { (value : List ℕ) → field.now ≡ (quoted name ++ spelled.mark_text level) ++ value
+    ensures { (value : List ℕ) → field.now ≡ (quote_text name ++ spelled.mark_text level) ++ value
         → IfOk result (λ text. string_bytes text ≡ value) }
 {
     match level {
-        Level::Optional => behind(alloc, field, "\"v\"?: "),
-        Level::Required => behind(alloc, field, "\"v\"!: "),
-        Level::Given => behind(alloc, field, "\"v\": "),
+        Level::Optional => text_behind(alloc, field, "\"v\"?: "),
+        Level::Required => text_behind(alloc, field, "\"v\"!: "),
+        Level::Given => text_behind(alloc, field, "\"v\": "),
     }
 }
 
 /// What is behind the front of a text; nothing where this is not its front.
-fn behind(alloc: Global, text: &str, front: &str) -> Result<String, Memory>
+fn text_behind(alloc: Global, text: &str, front: &str) -> Result<String, Memory>
     ensures { (value : List ℕ) → text.now ≡ front.now ++ value
         → IfOk result (λ text. string_bytes text ≡ value) }
 {
@@ -86,14 +86,14 @@ fn behind(alloc: Global, text: &str, front: &str) -> Result<String, Memory>
 /// An open struct with one field.
 fn with_field(alloc: Global, value: Table<Row>) -> Result<Table<Row>, Memory>
     requires depth { tree_depth value < step_limit }
-    requires some { IsTaken value }
+    requires some { IsTreeTaken value }
     ensures { IfOk result (λ table. table ≡ one_field value) }
 {
     let _form = value.root();
     let mut fields = Vec::new(alloc);
     fields.push((Step::Label(Text::from_str(alloc, "v")?), value))?;
     let mut table = Table::of_branches(alloc, fields)?;
-    let row = Row::of_struct(alloc, Level::Optional, Labels::all(alloc))?;
+    let row = Row::of_struct(alloc, Level::Optional, LabelSet::all(alloc))?;
     row.known();
     table.meet_row(row)?;
     Ok(table)
@@ -101,7 +101,7 @@ fn with_field(alloc: Global, value: Table<Row>) -> Result<Table<Row>, Memory>
 
 /// Whether a row lets an open struct be, or anything.
 fn is_file_row(row: &Row) -> bool
-    ensures { IsTrue result ↔ (IsKind row.now kinds.Free ⊎ IsOpenStruct row.now) }
+    ensures { IsTrue result ↔ (IsRowKind row.now kinds.Free ⊎ IsOpenStruct row.now) }
 {
     if !row.struct_ok() {
         return false;

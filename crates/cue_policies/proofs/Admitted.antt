@@ -1,13 +1,13 @@
 -- A document that all parts admit meets their view; and one that meets the view, whose labels are declared there, is admitted by each part.
 use Rattle.std.proofs.Common.{◌≡◌, ◌↔◌, inl, inr, ⊎_elim, ℕ, suc, List, [], ◌∷◌, ◌++◌, refl, ap, subst}
-use Rattle.cue_lattice.specs.Document.{Document, scalar, list, map, Items, no_items, item, Members, no_members, member, length_of, Has}
+use Rattle.cue_lattice.specs.Document.{Document, scalar, list, map, Items, no_items, item, Members, no_members, member, length_of, HasMember}
 use Rattle.cue_lattice.specs.Meets.{at_label, at_index, Meets, ItemsMeet, MembersMeet}
 use Rattle.cue_lattice.specs.Path.{label, index, Path}
 use Rattle.cue_lattice.specs.Question as questions
 use Rattle.cue_lattice.specs.Question.{Question, Refusals, may_be, struct, allows, level_at_most, length_at_most, length_at_least}
 use Rattle.cue_policies.specs.Documents.{Admits, ItemsAdmitted, MembersAdmitted, IsDeclaredIn, AreItemsDeclared, AreMembersDeclared}
 use Rattle.cue_policies.specs.Patterns.{IsPatternOf, Concerns}
-use Rattle.cue_policies.specs.View.{Part, IsAlong, IsLevel, EndsInPattern, PartRefuses, Declares, ViewRefuses}
+use Rattle.cue_policies.specs.View.{ViewedPart, IsAlong, IsLevelInView, EndsInPattern, PartRefuses, DeclaresAt, ViewRefuses}
 use Rattle.cue_policies.specs.Inner.Below.{Loose, below_name, below_pattern, below_index}
 use Rattle.cue_policies.specs.declared.kind.LayerKind.{LayerKind}
 use Rattle.cue_policies.proofs.Steps.{refused_below, declared_below, refused_at_index, declared_at_index, refused_at_root}
@@ -58,22 +58,22 @@ admits_loose kind r (map members) h = (λ q. h.0 (q, λ n. n), h.1, members_loos
 
 -- ---- families of parts
 -- what a family of parts has one step further, at a label
-abbrev Behind : {X : Type 0} → (X → Part) → List ℕ → Type 0
+abbrev Behind : {X : Type 0} → (X → ViewedPart) → List ℕ → Type 0
 Behind {X} part l = (x : X) × (own : List ℕ) × Concerns (part x).kind own l
 
-abbrev behind : {X : Type 0} (part : X → Part) (l : List ℕ) → Behind part l → Part
+abbrev behind : {X : Type 0} (part : X → ViewedPart) (l : List ℕ) → Behind part l → ViewedPart
 behind part l y = ⊎_elim (λ named. below_name (part y.0) y.1) (λ bound. below_pattern (part y.0) y.1) y.2
 
-abbrev SomeRefuses : {X : Type 0} → (X → Part) → Path → Question → Type 0
+abbrev SomeRefuses : {X : Type 0} → (X → ViewedPart) → Path → Question → Type 0
 SomeRefuses {X} part path question = (x : X) × PartRefuses (part x) path question
 
-abbrev SomeDeclares : {X : Type 0} → (X → Part) → Path → List ℕ → Type 0
-SomeDeclares {X} part place l = (x : X) × Declares (part x) place l
+abbrev SomeDeclares : {X : Type 0} → (X → ViewedPart) → Path → List ℕ → Type 0
+SomeDeclares {X} part place l = (x : X) × DeclaresAt (part x) place l
 
-abbrev item_of : {X : Type 0} → (X → Part) → ℕ → X → Part
+abbrev item_of : {X : Type 0} → (X → ViewedPart) → ℕ → X → ViewedPart
 item_of part i x = below_index (part x) i
 
-refuses_behind : {X : Type 0} (part : X → Part) (l : List ℕ) (path : Path) (question : Question) → SomeRefuses part (label l ∷ path) question ↔ SomeRefuses (behind part l) path question
+refuses_behind : {X : Type 0} (part : X → ViewedPart) (l : List ℕ) (path : Path) (question : Question) → SomeRefuses part (label l ∷ path) question ↔ SomeRefuses (behind part l) path question
 refuses_behind {X} part l path question = (
   λ h.
       let below = (refused_below (part h.0) l path question).0 h.1 in
@@ -85,7 +85,7 @@ refuses_behind {X} part l path question = (
     back x own (inl n) h = (x, (refused_below (part x) l path question).1 (own, inl (n, h)))
     back x own (inr b) h = (x, (refused_below (part x) l path question).1 (own, inr (b, h)))
 
-declares_behind : {X : Type 0} (part : X → Part) (k : List ℕ) (place : Path) (l : List ℕ) → SomeDeclares part (label k ∷ place) l ↔ SomeDeclares (behind part k) place l
+declares_behind : {X : Type 0} (part : X → ViewedPart) (k : List ℕ) (place : Path) (l : List ℕ) → SomeDeclares part (label k ∷ place) l ↔ SomeDeclares (behind part k) place l
 declares_behind {X} part k place l = (
   λ h.
       let below = (declared_below (part h.0) k place l).0 h.1 in
@@ -93,25 +93,25 @@ declares_behind {X} part k place l = (
   λ h. back h.0.0 h.0.1 h.0.2 h.1,
 )
   where
-    back : (x : X) (own : List ℕ) (c : Concerns (part x).kind own k) → Declares (behind part k (x, own, c)) place l → (x : X) × Declares (part x) (label k ∷ place) l
+    back : (x : X) (own : List ℕ) (c : Concerns (part x).kind own k) → DeclaresAt (behind part k (x, own, c)) place l → (x : X) × DeclaresAt (part x) (label k ∷ place) l
     back x own (inl n) h = (x, (declared_below (part x) k place l).1 (own, inl (n, h)))
     back x own (inr b) h = (x, (declared_below (part x) k place l).1 (own, inr (b, h)))
 
-required : {X : Type 0} (part : X → Part) (members : Members) → ((x : X) → Admits (part x).kind (part x).refuses (map members)) → (l : List ℕ) (x : X) → PartRefuses (part x) (label l ∷ []) (level_at_most 0) → Has l members
+required : {X : Type 0} (part : X → ViewedPart) (members : Members) → ((x : X) → Admits (part x).kind (part x).refuses (map members)) → (l : List ℕ) (x : X) → PartRefuses (part x) (label l ∷ []) (level_at_most 0) → HasMember l members
 required part members h l x p = by p.0 p.1 p.2 p.3
   where
-    by : (written : Path) → IsAlong (part x).kind written (label l ∷ []) → (part x).refuses written (level_at_most 0) → ¬ (EndsInPattern (part x).kind written × IsLevel (level_at_most 0)) → Has l members
+    by : (written : Path) → IsAlong (part x).kind written (label l ∷ []) → (part x).refuses written (level_at_most 0) → ¬ (EndsInPattern (part x).kind written × IsLevelInView (level_at_most 0)) → HasMember l members
     by [] along r non = absurd along
     by (index n ∷ written) along r non = absurd along
     by (label own ∷ label m ∷ written) along r non = absurd along.1
     by (label own ∷ index n ∷ written) along r non = absurd along.1
     by (label own ∷ []) along r non = ⊎_elim
-        (λ named. subst (λ m. Has m members) named.0 ((h x).1 own named.1 r))
+        (λ named. subst (λ m. HasMember m members) named.0 ((h x).1 own named.1 r))
         (λ bound. absurd (non (bound.0, tt)))
         along.0
 
 below_admits :
-    {X : Type 0} (part : X → Part) (l : List ℕ) (d : Document) (x : X) (own : List ℕ) (c : Concerns (part x).kind own l)
+    {X : Type 0} (part : X → ViewedPart) (l : List ℕ) (d : Document) (x : X) (own : List ℕ) (c : Concerns (part x).kind own l)
     → Admits (part x).kind (at_label (part x).refuses own) d → Admits (behind part l (x, own, c)).kind (behind part l (x, own, c)).refuses d
 below_admits part l d x own (inl named) h = h
 below_admits part l d x own (inr bound) h = admits_less (part x).kind (at_label (part x).refuses own) (Loose (at_label (part x).refuses own)) d (loose_less (at_label (part x).refuses own)) h
@@ -119,7 +119,7 @@ below_admits part l d x own (inr bound) h = admits_less (part x).kind (at_label 
 -- ---- what all parts admit meets what some of them refuse
 mutual
   pub all_admit :
-      {X : Type 0} (part : X → Part) (r : Refusals) (d : Document) → ((path : Path) (question : Question) → r path question → SomeRefuses part path question)
+      {X : Type 0} (part : X → ViewedPart) (r : Refusals) (d : Document) → ((path : Path) (question : Question) → r path question → SomeRefuses part path question)
       → ((x : X) → Admits (part x).kind (part x).refuses d) → Meets r d
   all_admit part r (scalar x) f h = λ q. let one = f [] (may_be x) q in h one.0 ((refused_at_root (part one.0) (may_be x)).0 one.1)
   all_admit part r (list items) f h = (
@@ -147,7 +147,7 @@ mutual
   )
 
   all_members :
-      {X : Type 0} (part : X → Part) (r : Refusals) (members : Members) → ((path : Path) (question : Question) → r path question → SomeRefuses part path question)
+      {X : Type 0} (part : X → ViewedPart) (r : Refusals) (members : Members) → ((path : Path) (question : Question) → r path question → SomeRefuses part path question)
       → ((x : X) → MembersAdmitted (part x).kind (part x).refuses members) → MembersMeet r members
   all_members part r no_members f h = tt
   all_members part r (member l d members) f h = (
@@ -161,13 +161,13 @@ nowhere : (place : Path) (l : List ℕ) (further : Path) → [] ≡ place ++ lab
 nowhere [] l further e = cc
 nowhere (step ∷ place) l further e = cc
 
-abbrev AreDeclared : {X : Type 0} → (X → Part) → Path → Type 0
+abbrev AreDeclared : {X : Type 0} → (X → ViewedPart) → Path → Type 0
 AreDeclared part path = (place : Path) (l : List ℕ) (further : Path) → path ≡ place ++ label l ∷ further → SomeDeclares part place l
 
-at_root : {X : Type 0} (part : X → Part) → AreDeclared part []
+at_root : {X : Type 0} (part : X → ViewedPart) → AreDeclared part []
 at_root part place l further e = absurd (nowhere place l further e)
 
-index_out : {X : Type 0} (part : X → Part) (i : ℕ) (path : Path) → AreDeclared (item_of part i) path → AreDeclared part (index i ∷ path)
+index_out : {X : Type 0} (part : X → ViewedPart) (i : ℕ) (path : Path) → AreDeclared (item_of part i) path → AreDeclared part (index i ∷ path)
 index_out part i path h [] l further e = cc
 index_out part i path h (label m ∷ place) l further e = cc
 index_out part i path h (index n ∷ place) l further e =
@@ -175,36 +175,36 @@ index_out part i path h (index n ∷ place) l further e =
     let one = h place l further more in
     subst (λ m. SomeDeclares part (index m ∷ place) l) same (one.0, (declared_at_index (part one.0) i place l).1 one.1)
 
-index_in : {X : Type 0} (part : X → Part) (i : ℕ) (path : Path) → AreDeclared part (index i ∷ path) → AreDeclared (item_of part i) path
+index_in : {X : Type 0} (part : X → ViewedPart) (i : ℕ) (path : Path) → AreDeclared part (index i ∷ path) → AreDeclared (item_of part i) path
 index_in part i path h place l further e =
     let one = h (index i ∷ place) l further (ap (λ p. index i ∷ p) e) in
     (one.0, (declared_at_index (part one.0) i place l).0 one.1)
 
-label_out : {X : Type 0} (part : X → Part) (k : List ℕ) (path : Path) → SomeDeclares part [] k → AreDeclared (behind part k) path → AreDeclared part (label k ∷ path)
+label_out : {X : Type 0} (part : X → ViewedPart) (k : List ℕ) (path : Path) → SomeDeclares part [] k → AreDeclared (behind part k) path → AreDeclared part (label k ∷ path)
 label_out part k path here h [] l further e = let same : k ≡ l = cc in subst (λ m. SomeDeclares part [] m) same here
 label_out part k path here h (index n ∷ place) l further e = cc
 label_out part k path here h (label m ∷ place) l further e =
     let same : k ≡ m = cc in let more : path ≡ place ++ label l ∷ further = cc in
     subst (λ n. SomeDeclares part (label n ∷ place) l) same ((declares_behind part k place l).1 (h place l further more))
 
-label_in : {X : Type 0} (part : X → Part) (k : List ℕ) (path : Path) → AreDeclared part (label k ∷ path) → AreDeclared (behind part k) path
+label_in : {X : Type 0} (part : X → ViewedPart) (k : List ℕ) (path : Path) → AreDeclared part (label k ∷ path) → AreDeclared (behind part k) path
 label_in part k path h place l further e = (declares_behind part k place l).0 (h (label k ∷ place) l further (ap (λ p. label k ∷ p) e))
 
 -- a field of a part declares itself
-own_field : {X : Type 0} (part : X → Part) (x : X) (l : List ℕ) (question : Question) → ¬ IsPatternOf (part x).kind l → (part x).refuses (label l ∷ []) question → AreDeclared part (label l ∷ [])
+own_field : {X : Type 0} (part : X → ViewedPart) (x : X) (l : List ℕ) (question : Question) → ¬ IsPatternOf (part x).kind l → (part x).refuses (label l ∷ []) question → AreDeclared part (label l ∷ [])
 own_field part x l question plain r [] k further e = let same : l ≡ k = cc in subst (λ m. SomeDeclares part [] m) same (x, ([], [], question, tt, plain, r))
 own_field part x l question plain r (index n ∷ place) k further e = cc
 own_field part x l question plain r (label m ∷ place) k further e = let more : [] ≡ place ++ label k ∷ further = cc in absurd (nowhere place k further more)
 
 admits_behind :
-    {X : Type 0} (part : X → Part) (l : List ℕ) (d : Document) (x : X) (own : List ℕ) (c : Concerns (part x).kind own l)
+    {X : Type 0} (part : X → ViewedPart) (l : List ℕ) (d : Document) (x : X) (own : List ℕ) (c : Concerns (part x).kind own l)
     → Admits (behind part l (x, own, c)).kind (behind part l (x, own, c)).refuses d → Admits (part x).kind (at_label (part x).refuses own) d
 admits_behind part l d x own (inl named) h = h
 admits_behind part l d x own (inr bound) h = admits_loose (part x).kind (at_label (part x).refuses own) d h
 
 mutual
   pub each_admits :
-      {X : Type 0} (part : X → Part) (r : Refusals) (d : Document)
+      {X : Type 0} (part : X → ViewedPart) (r : Refusals) (d : Document)
       → ((path : Path) (question : Question) → AreDeclared part path → SomeRefuses part path question → r path question)
       → ((path : Path) (question : Question) → r path question → AreDeclared part path)
       → Meets r d → IsDeclaredIn r d → (x : X) → Admits (part x).kind (part x).refuses d
@@ -238,7 +238,7 @@ mutual
   )
 
   each_members :
-      {X : Type 0} (part : X → Part) (r : Refusals) (members : Members)
+      {X : Type 0} (part : X → ViewedPart) (r : Refusals) (members : Members)
       → ((path : Path) (question : Question) → AreDeclared part path → SomeRefuses part path question → r path question)
       → ((path : Path) (question : Question) → r path question → AreDeclared part path)
       → MembersMeet r members → AreMembersDeclared r members → (x : X) → MembersAdmitted (part x).kind (part x).refuses members
@@ -254,11 +254,11 @@ mutual
       )
 
 -- ---- parts of a list
-module _ {X : Type 0} (part : X → Part) (members : List X) where
+module _ {X : Type 0} (part : X → ViewedPart) (members : List X) where
   abbrev Member : Type 0
   Member = (x : X) × IsIn x members
 
-  of_member : Member → Part
+  of_member : Member → ViewedPart
   of_member m = part m.0
 
   -- a document that all parts admit meets the view
@@ -276,8 +276,8 @@ module _ {X : Type 0} (part : X → Part) (members : List X) where
   meeting_is_admitted d meets known x is =
       each_admits of_member (ViewRefuses part members) d
       (λ path question h q. (
-        λ place l further e. let one = h place l further e in put (λ x. Declares (part x) place l) members one.0.0 one.0.1 one.1,
+        λ place l further e. let one = h place l further e in put (λ x. DeclaresAt (part x) place l) members one.0.0 one.0.1 one.1,
         put (λ x. PartRefuses (part x) path question) members q.0.0 q.0.1 q.1,
       ))
-      (λ path question q place l further e. let one = pick (λ x. Declares (part x) place l) members (q.0 place l further e) in ((one.0, one.1), one.2))
+      (λ path question q place l further e. let one = pick (λ x. DeclaresAt (part x) place l) members (q.0 place l further e) in ((one.0, one.1), one.2))
       meets known (x, is)

@@ -6,7 +6,7 @@ use Rattle.cue_lattice.specs.OneOf.{OneOf}
 use Rattle.cue_lattice.specs.Path.{label, index, Path}
 use Rattle.cue_lattice.specs.Question.{Question, SameAnswers}
 use Rattle.cue_row.specs.Row as rows
-use Rattle.cue_row.specs.Row.{Refuses, IsRow}
+use Rattle.cue_row.specs.Row.{RefusesAsked, IsRow}
 use Rattle.cue_row.specs.Steps.{step_of}
 use Rattle.cue_row.specs.ValidRow.{IsWord}
 use Rattle.cue_row.specs.declared.step.Step.{Step}
@@ -15,11 +15,11 @@ use Rattle.cue_row.specs.declared.parts.RowParts.{RowParts as Row}
 use Rattle.cue_table.specs.Depth.{tree_depth}
 use Rattle.cue_table.specs.Form.{IsTable}
 use Rattle.cue_table.specs.Refuses.{RowRefuses}
-use Rattle.cue_table.specs.Tree.{Tree, row_of, rest_of, rest_tree, fixed_of}
+use Rattle.cue_table.specs.Tree.{Tree, row_of, rest_below, rest_at, fixed_of}
 use Rattle.cue_table.specs.Valid.{IsValidTable}
 use Rattle.cue_table.specs.Inner.ValidWalk.{HasChild}
 use Rattle.cue_policies.specs.Tables.{table_part, ViewOfTwo}
-use Rattle.cue_policies.specs.View.{Declares}
+use Rattle.cue_policies.specs.View.{DeclaresAt}
 use Rattle.cue_policies.specs.WellFormed.{IsPlain, IsWellFormed}
 use Rattle.cue_table.specs.Meet.{IsMet}
 use Rattle.cue_policies.proofs.Asking.{met_answers}
@@ -27,8 +27,8 @@ use Rattle.cue_policies.specs.declared.kind.LayerKind.{LayerKind}
 use Rattle.cue_policies.specs.declared.kind.LayerKind.TheVariants as kinds
 use Rattle.cue_policies.specs.declared.part.Role.TheVariants as roles
 use Rattle.cue_policies.specs.declared.part.ViewPart.{ViewPart}
-use Rattle.cue_policies.specs.Inner.Answers.{Answers}
-use Rattle.cue_policies.specs.Inner.Parts.{held, held_row, part_of, two_parts, PartsRefuse, IsIn, HasLabel, HasLabels, IsBelow, IsPlace, IsElements, RestRefuses, IsSoundPart, AreSoundParts, IsLimited, IsFit, AreLimited, IsField, AreFields, most_depth}
+use Rattle.cue_policies.specs.Inner.Answers.{PolicyTreeRefusals}
+use Rattle.cue_policies.specs.Inner.Parts.{refused_in_role, held_row, part_of, two_parts, PartsRefuse, IsIn, HasLabel, HasLabels, IsBelow, IsPlace, IsElements, RestRefuses, IsSoundPart, AreSoundParts, IsLimited, IsFit, AreLimited, IsField, AreFields, most_depth}
 use Rattle.cue_policies.proofs.Branches.{OwnRefuses, RestAt, elements_apart}
 use Rattle.cue_policies.proofs.Fields.{AreFieldsSoFar}
 use Rattle.cue_policies.proofs.Gains.{none_in, pushed}
@@ -49,7 +49,7 @@ if_ok_both (Err e) P Q R f p q = p
 -- ---- a place without its labels
 -- what a table refuses that has a row added to the elements
 pub place_parts : (part : ViewPart) (elements whole : Tree Row) → IsElements part.branch elements
-    → ((path : Path) (question : Question) → Answers whole path question ↔ (Answers elements path question ⊎ ((path ≡ []) × held part.role part.branch [] question))) → IsPlace part whole
+    → ((path : Path) (question : Question) → PolicyTreeRefusals whole path question ↔ (PolicyTreeRefusals elements path question ⊎ ((path ≡ []) × refused_in_role part.role part.branch [] question))) → IsPlace part whole
 place_parts part elements whole is same [] question = (
   λ h. ⊎_elim (λ x. absurd ((is [] question).0 x)) (λ x. x.1) ((same [] question).0 h),
   λ h. (same [] question).1 (inr (refl, h)),
@@ -71,24 +71,24 @@ place_parts part elements whole is same (index i ∷ path) question = (
 
 -- what is refused where a row is added
 pub row_added : (part : ViewPart) (row held_is : Row) (old new : Tree Row) → row_of part.branch ≡ Some row → held_is ≡ held_row part.role row
-    → ((path : Path) (question : Question) → Answers new path question ↔ (Answers old path question ⊎ ((path ≡ []) × rows.RowRefuses held_is question)))
-    → (path : Path) (question : Question) → Answers new path question ↔ (Answers old path question ⊎ ((path ≡ []) × held part.role part.branch [] question))
+    → ((path : Path) (question : Question) → PolicyTreeRefusals new path question ↔ (PolicyTreeRefusals old path question ⊎ ((path ≡ []) × rows.RowRefusesQuestion held_is question)))
+    → (path : Path) (question : Question) → PolicyTreeRefusals new path question ↔ (PolicyTreeRefusals old path question ⊎ ((path ≡ []) × refused_in_role part.role part.branch [] question))
 row_added part row held_is old new e same added path question =
     let here = added path question in
-    let held = held_refuses part.role row question in
-    let into = λ (r : rows.RowRefuses held_is question). held.0 (subst (λ (x : Row). rows.RowRefuses x question) same r) in
-    let root : Answers part.branch [] question ↔ rows.RowRefuses row question = (subst (λ o. RowRefuses rows.RowRefuses o question) e, subst (λ o. RowRefuses rows.RowRefuses o question) (sym e)) in (
+    let refused_in_role = held_refuses part.role row question in
+    let into = λ (r : rows.RowRefusesQuestion held_is question). refused_in_role.0 (subst (λ (x : Row). rows.RowRefusesQuestion x question) same r) in
+    let root : PolicyTreeRefusals part.branch [] question ↔ rows.RowRefusesQuestion row question = (subst (λ o. RowRefuses rows.RowRefusesQuestion o question) e, subst (λ o. RowRefuses rows.RowRefusesQuestion o question) (sym e)) in (
       λ h. ⊎_elim (λ x. inl x) (λ x. let r = into x.1 in inr (x.0, (root.1 r.0, r.1))) (here.0 h),
-      λ h. here.1 (⊎_elim (λ x. inl x) (λ x. inr (x.0, subst (λ (y : Row). rows.RowRefuses y question) (sym same) (held.1 (root.0 x.1.0, x.1.1)))) h),
+      λ h. here.1 (⊎_elim (λ x. inl x) (λ x. inr (x.0, subst (λ (y : Row). rows.RowRefusesQuestion y question) (sym same) (refused_in_role.1 (root.0 x.1.0, x.1.1)))) h),
     )
 
 -- a table of the elements that stand by themselves, with the rest
 pub elements_parts :
-    (tree : Tree Row) (given : List (Step × Tree Row)) (own whole : Tree Row) → IsTable Refuses IsRow tree
-    → ((path : Path) (question : Question) → Answers whole path question ↔ (Answers own path question ⊎ RestRefuses tree path question))
-    → ((question : Question) → ¬ Answers own [] question)
-    → ((l : List ℕ) (path : Path) (question : Question) → ¬ Answers own (label l ∷ path) question)
-    → ((i : ℕ) (path : Path) (question : Question) → Answers own (index i ∷ path) question ↔ OwnRefuses tree i path question)
+    (tree : Tree Row) (given : List (Step × Tree Row)) (own whole : Tree Row) → IsTable RefusesAsked IsRow tree
+    → ((path : Path) (question : Question) → PolicyTreeRefusals whole path question ↔ (PolicyTreeRefusals own path question ⊎ RestRefuses tree path question))
+    → ((question : Question) → ¬ PolicyTreeRefusals own [] question)
+    → ((l : List ℕ) (path : Path) (question : Question) → ¬ PolicyTreeRefusals own (label l ∷ path) question)
+    → ((i : ℕ) (path : Path) (question : Question) → PolicyTreeRefusals own (index i ∷ path) question ↔ OwnRefuses tree i path question)
     → IsElements tree whole
 elements_parts tree given own whole form same root labels items [] question = (
   λ h. ⊎_elim (λ x. root question x) (λ x. far x.0 x.1 x.3) ((same [] question).0 h),
@@ -120,19 +120,19 @@ elements_parts tree given own whole form same root labels items (index i ∷ pat
     rest_in h =
         let number : h.0 ≡ i = number_of h.0 h.1 h.3 in
         let behind : h.1 ≡ path = behind_of h.0 h.1 h.3 in
-        (h.2, h.4, subst (λ n. fixed_of tree ≤ n) number h.5, subst (λ p. Answers h.2 p question) behind h.6)
+        (h.2, h.4, subst (λ n. fixed_of tree ≤ n) number h.5, subst (λ p. PolicyTreeRefusals h.2 p question) behind h.6)
 
 -- what is refused where a rest is added
-pub rest_added : (tree rest old new : Tree Row) (first : ℕ) → rest_tree (rest_of tree) ≡ Some rest → first ≡ fixed_of tree
-    → ((at : Path) (question : Question) → Answers new at question ↔ (Answers old at question ⊎ ((i : ℕ) × (path : Path) × (at ≡ index i ∷ path) × (first ≤ i) × Answers rest path question)))
-    → (at : Path) (question : Question) → Answers new at question ↔ (Answers old at question ⊎ RestRefuses tree at question)
+pub rest_added : (tree rest old new : Tree Row) (first : ℕ) → rest_at (rest_below tree) ≡ Some rest → first ≡ fixed_of tree
+    → ((at : Path) (question : Question) → PolicyTreeRefusals new at question ↔ (PolicyTreeRefusals old at question ⊎ ((i : ℕ) × (path : Path) × (at ≡ index i ∷ path) × (first ≤ i) × PolicyTreeRefusals rest path question)))
+    → (at : Path) (question : Question) → PolicyTreeRefusals new at question ↔ (PolicyTreeRefusals old at question ⊎ RestRefuses tree at question)
 rest_added tree rest old new first e same added at question =
     let here = added at question in (
       λ h. ⊎_elim (λ x. inl x) (λ x. inr (x.0, x.1, rest, x.2, e, subst (λ n. n ≤ x.0) same x.3, x.4)) (here.0 h),
       λ h. here.1 (⊎_elim (λ x. inl x) (λ x.
           let both : Some rest ≡ Some x.2 = sym e ∙ x.4 in
           let one : x.2 ≡ rest = sym (some_same rest x.2 both) in
-          inr (x.0, x.1, x.3, subst (λ n. n ≤ x.0) (sym same) x.5, subst (λ t. Answers t x.1 question) one x.6)) h),
+          inr (x.0, x.1, x.3, subst (λ n. n ≤ x.0) (sym same) x.5, subst (λ t. PolicyTreeRefusals t x.1 question) one x.6)) h),
     )
   where
     some_same : (a b : Tree Row) → Some a ≡ Some b → a ≡ b
@@ -153,29 +153,29 @@ so_far_start parts labels left fields sound known same nothing = record {
   all = λ l is. inl (subst (IsIn l) (sym same) ((labels_declared parts labels sound known l).1 is));
 }
 
-pub first_declared : (parts : List ViewPart) (left next : List (List ℕ)) (l : List ℕ) (fields : List (Step × Tree Row)) → left ≡ l ∷ next → AreFieldsSoFar parts left fields → OneOf (λ part. Declares (part_of part) [] l) parts
+pub first_declared : (parts : List ViewPart) (left next : List (List ℕ)) (l : List ℕ) (fields : List (Step × Tree Row)) → left ≡ l ∷ next → AreFieldsSoFar parts left fields → OneOf (λ part. DeclaresAt (part_of part) [] l) parts
 first_declared parts left next l fields cut far = far.declared l (subst (IsIn l) (sym cut) (inl refl))
 
-pub declared_has : (parts : List ViewPart) (l : List ℕ) → OneOf (λ part. Declares (part_of part) [] l) parts → OneOf (λ part. HasLabel false part l) parts
+pub declared_has : (parts : List ViewPart) (l : List ℕ) → OneOf (λ part. DeclaresAt (part_of part) [] l) parts → OneOf (λ part. HasLabel false part l) parts
 declared_has parts l h =
-    let one = pick (λ part. Declares (part_of part) [] l) parts h in
+    let one = pick (λ part. DeclaresAt (part_of part) [] l) parts h in
     put (λ part. HasLabel false part l) parts one.0 one.1 (declared_there one.0 l one.2)
 
 child_word : (parent : Row) (l : List ℕ) (row : Option Row) → HasChild parent (label l) row → IsWord l
 child_word parent l None h = absurd h
 child_word parent l (Some row) h = h.word
 
-declared_word : (parts : List ViewPart) (l : List ℕ) → AreSoundParts parts → OneOf (λ part. Declares (part_of part) [] l) parts → IsWord l
+declared_word : (parts : List ViewPart) (l : List ℕ) → AreSoundParts parts → OneOf (λ part. DeclaresAt (part_of part) [] l) parts → IsWord l
 declared_word parts l sound h =
-    let one = pick (λ part. Declares (part_of part) [] l) parts h in
+    let one = pick (λ part. DeclaresAt (part_of part) [] l) parts h in
     let branch = (declared_there one.0 l one.2).1 in
     let into = tree_into one.0.branch branch.0 (label l) (sound one.0 one.1).sound branch.1 in
     child_word into.0 l (row_of branch.0) into.2
 
 pub field_made :
     (parts found : List ViewPart) (patterns : List (List ℕ)) (l : List ℕ) (table : Tree Row) → AreSoundParts parts → most_depth parts ≤ step_limit → HasLabels true parts patterns
-    → ((next : ViewPart) → IsIn next found ↔ OneOf (λ part. IsBelow patterns l part next) parts) → OneOf (λ part. Declares (part_of part) [] l) parts
-    → IsTable Refuses IsRow table → SameAnswers (Answers table) (PartsRefuse found) → ((top : Bool) → AreLimited top found → IsFit top table) → IsField parts (Label l, table)
+    → ((next : ViewPart) → IsIn next found ↔ OneOf (λ part. IsBelow patterns l part next) parts) → OneOf (λ part. DeclaresAt (part_of part) [] l) parts
+    → IsTable RefusesAsked IsRow table → SameAnswers (PolicyTreeRefusals table) (PartsRefuse found) → ((top : Bool) → AreLimited top found → IsFit top table) → IsField parts (Label l, table)
 field_made parts found patterns l table sound deep known are declared form same fit = record {
   at = l;
   is = refl;
@@ -220,17 +220,17 @@ at_index P (x ∷ xs) f (suc k) d less = at_index P xs (λ y is. f y (inr is)) k
 pub fields_low : (parts : List ViewPart) (fields : List (Step × Tree Row)) → AreFields parts fields → All (λ one. tree_depth one.1 < step_limit) fields
 fields_low parts fields are = at_index (λ one. tree_depth one.1 < step_limit) fields (λ one is. (are.made one is).fit.1)
 
-pub lone_answers : (parts : List ViewPart) (part : ViewPart) (view : Tree Row) → parts ≡ part ∷ [] → part.role ≡ roles.Layer → view ≡ part.branch → SameAnswers (Answers view) (PartsRefuse parts)
+pub lone_answers : (parts : List ViewPart) (part : ViewPart) (view : Tree Row) → parts ≡ part ∷ [] → part.role ≡ roles.Layer → view ≡ part.branch → SameAnswers (PolicyTreeRefusals view) (PartsRefuse parts)
 lone_answers parts part view e role is path question =
     let here = lone_view part role path question in
-    subst (λ ps. Answers view path question ↔ PartsRefuse ps path question) (sym e)
-    (subst (λ t. Answers t path question ↔ PartsRefuse (part ∷ []) path question) (sym is) here)
+    subst (λ ps. PolicyTreeRefusals view path question ↔ PartsRefuse ps path question) (sym e)
+    (subst (λ t. PolicyTreeRefusals t path question ↔ PartsRefuse (part ∷ []) path question) (sym is) here)
 
 -- ---- the two tables
 each_of : (layers policies : Tree Row) (P : ViewPart → Type 0) → P (record { role = roles.Layer; branch = layers }) → P (record { role = roles.Policy; branch = policies }) → (part : ViewPart) → IsIn part (two_parts layers policies) → P part
 each_of layers policies P p q part is = ⊎_elim (λ e. subst P e p) (λ r. ⊎_elim (λ e. subst P e q) (λ non. absurd non) r) is
 
-pub two_sound : (layers policies : Tree Row) → IsValidTable layers → IsValidTable policies → tree_depth layers ≤ step_limit → tree_depth policies ≤ step_limit → IsWellFormed (Answers policies) → AreSoundParts (two_parts layers policies)
+pub two_sound : (layers policies : Tree Row) → IsValidTable layers → IsValidTable policies → tree_depth layers ≤ step_limit → tree_depth policies ≤ step_limit → IsWellFormed (PolicyTreeRefusals policies) → AreSoundParts (two_parts layers policies)
 two_sound layers policies h k deep low formed = each_of layers policies IsSoundPart
     (record { form = h.form; sound = (valid_is_root layers h deep).0; lists = λ path question r never. layer_no never.0 })
     (record { form = k.form; sound = (valid_is_root policies k low).0; lists = λ path question r has. formed.lists path question r has.1 })
@@ -266,7 +266,7 @@ two_parts_are layers policies first second none one both parts e f nothing push 
     is ∙ all ∙ (λ i. two_parts (e i) (f i))
 
 -- without patterns the view is what the two tables are met to
-pub plain_two : (layers policies met : Tree Row) → IsMet Refuses layers policies met → IsPlain (Answers policies) → SameAnswers (Answers met) (ViewOfTwo layers policies)
+pub plain_two : (layers policies met : Tree Row) → IsMet RefusesAsked layers policies met → IsPlain (PolicyTreeRefusals policies) → SameAnswers (PolicyTreeRefusals met) (ViewOfTwo layers policies)
 plain_two layers policies met is plain path question =
     let m = met_answers layers policies met is path question in
     let view = plain_view table_part ((kinds.Layer, layers) ∷ (kinds.Policy, policies) ∷ []) each path question in (

@@ -12,21 +12,21 @@ use Rattle.cue_lattice.specs.Question.{Question, allows}
 use Rattle.cue_row.specs.declared.parts.RowParts.{RowParts as Row}
 use Rattle.cue_row.specs.LabelSets.{RefusesLabel}
 use Rattle.cue_row.specs.Row as rows
-use Rattle.cue_row.specs.Row.{Refuses, IsRow}
+use Rattle.cue_row.specs.Row.{RefusesAsked, IsRow}
 use Rattle.cue_row.specs.Questions.{question_of}
 use Rattle.cue_sets.specs.Texts.{is_listed}
 use Rattle.cue_sets.specs.TextLaws.{greatest_length, zeros, is_listed-zeros}
-use Rattle.cue_table.specs.Tree.{Tree, node, Children, none, child, Rest, no_rest, onward, row_of, below, rest_of, rest_tree, find, find_with, if_equal, row_at}
-use Rattle.cue_table.specs.Form.{IsTree, AreBranches, IsRestOf, IsKept, IsTable}
+use Rattle.cue_table.specs.Tree.{Tree, node, Children, none, child, Rest, no_rest, onward, row_of, below, rest_below, rest_at, find, find_with, if_equal, row_at}
+use Rattle.cue_table.specs.Form.{IsTree, AreBranches, IsRestOf, IsRowKept, IsTable}
 use Rattle.cue_table.specs.Refuses.{RowRefuses}
-use Rattle.cue_table.specs.Spans.{Span, field, elements, first_of, alike, spanned, spread}
+use Rattle.cue_table.specs.Spans.{Span, field, elements, first_of_span, alike_elements, branches_of_span, branches_of_spans}
 use Rattle.cue_table.proofs.Branches.{find_first, find_rest, find_own}
 use Rattle.cue_table.proofs.Depth.{found_row, row_found, found_later, kept_at, taken_row}
 use Rattle.cue_table.proofs.Order.{equal_steps}
 use Rattle.cue_policies.specs.Patterns.{IsPattern}
 use Rattle.cue_policies.specs.WellFormed.{HasPattern, HasPatternInList, IsPlain, IsWellFormed}
 use Rattle.cue_policies.specs.Inner.Forms.{ArePlain, IsPlainSet, IsPlainRow, MayStep, below_step, IsForm, AreForms, IsRestForm}
-use Rattle.cue_policies.specs.Inner.Answers.{Answers}
+use Rattle.cue_policies.specs.Inner.Answers.{PolicyTreeRefusals}
 
 -- ---- paths: a pattern that is in a list
 PatternFrom : Bool → Path → Type 0
@@ -143,7 +143,7 @@ formed_rows b (node here children rest) (step ∷ path) row h e =
 
 -- ---- and back
 abbrev Kept : Row → Type 0
-Kept = IsKept Refuses IsRow
+Kept = IsRowKept RefusesAsked IsRow
 
 plain_row : (here : Option Row) → ((row : Row) → here ≡ Some row → IsPlainSet row.labels) → IsPlainRow here
 plain_row None h = tt
@@ -184,14 +184,14 @@ mutual
       (here.0, λ p. here.1 (further b (index n) path p)))
 
 -- ---- what a table refuses
-refusing : (here : Option Row) (question : Question) → RowRefuses rows.RowRefuses here question → (row : Row) × (here ≡ Some row) × rows.RowRefuses row question
+refusing : (here : Option Row) (question : Question) → RowRefuses rows.RowRefusesQuestion here question → (row : Row) × (here ≡ Some row) × rows.RowRefusesQuestion row question
 refusing None question r = absurd r
 refusing (Some row) question r = (row, refl, r)
 
-refused : (here : Option Row) (row : Row) (question : Question) → here ≡ Some row → rows.RowRefuses row question → RowRefuses rows.RowRefuses here question
-refused here row question e r = subst (λ o. RowRefuses rows.RowRefuses o question) (sym e) r
+refused : (here : Option Row) (row : Row) (question : Question) → here ≡ Some row → rows.RowRefusesQuestion row question → RowRefuses rows.RowRefusesQuestion here question
+refused here row question e r = subst (λ o. RowRefuses rows.RowRefusesQuestion o question) (sym e) r
 
-formed_refuses : (tree : Tree Row) → IsForm false tree → IsWellFormed (Answers tree)
+formed_refuses : (tree : Tree Row) → IsForm false tree → IsWellFormed (PolicyTreeRefusals tree)
 unfolding PatternFrom LeavesOut
 formed_refuses tree h = record {
   lists = λ path question r. let row = refusing (row_at tree path) question r in (formed_rows false tree path row.0 h row.1).1;
@@ -203,7 +203,7 @@ formed_refuses tree h = record {
 one_row : (a : Option Row) (p q : Row) → a ≡ Some p → a ≡ Some q → p ≡ q
 one_row a p q d e = cc
 
-refuses_formed : (tree : Tree Row) → IsTable Refuses IsRow tree → IsWellFormed (Answers tree) → IsForm false tree
+refuses_formed : (tree : Tree Row) → IsTable RefusesAsked IsRow tree → IsWellFormed (PolicyTreeRefusals tree) → IsForm false tree
 unfolding PatternFrom LeavesOut
 refuses_formed tree form well = rows_formed false tree form (λ path row e. (
   leaving_out_plain row.labels (λ l pattern r is.
@@ -213,18 +213,18 @@ refuses_formed tree form well = rows_formed false tree form (λ path row e. (
 ))
 
 -- a walk finds a table right just where it is a well-formed policy
-pub well_formed : (tree : Tree Row) → IsTable Refuses IsRow tree → IsForm false tree ↔ IsWellFormed (Answers tree)
+pub well_formed : (tree : Tree Row) → IsTable RefusesAsked IsRow tree → IsForm false tree ↔ IsWellFormed (PolicyTreeRefusals tree)
 well_formed tree form = (formed_refuses tree, refuses_formed tree form)
 
 -- ---- the steps of the walk
-alike_forms : (b : Bool) (i more : ℕ) (tree : Tree Row) (others : Children Row) → AreForms b (alike i more tree others) ↔ (IsForm true tree × AreForms b others)
+alike_forms : (b : Bool) (i more : ℕ) (tree : Tree Row) (others : Children Row) → AreForms b (alike_elements i more tree others) ↔ (IsForm true tree × AreForms b others)
 alike_forms b i zero tree others = (λ h. (h.1, h.2), λ h. (tt, h.0, h.1))
 alike_forms b i (suc more) tree others =
     let behind = alike_forms b (suc i) more tree others in
     (λ h. (h.1, (behind.0 h.2).1), λ h. (tt, h.0, behind.1 h))
 
 spanned_forms : (b : Bool) (span : Span) (tree : Tree Row) (others : Children Row)
-    → AreForms b (spanned span tree others) ↔ (MayStep b (first_of span) × IsForm (below_step b (first_of span)) tree × AreForms b others)
+    → AreForms b (branches_of_span span tree others) ↔ (MayStep b (first_of_span span) × IsForm (below_step b (first_of_span span)) tree × AreForms b others)
 spanned_forms b (field l) tree others = (λ h. h, λ h. h)
 spanned_forms b (elements i more) tree others =
     let all = alike_forms b i more tree others in
@@ -233,30 +233,30 @@ spanned_forms b (elements i more) tree others =
 -- the walk went one span further: what is left decides the others
 pub forms_more :
     (b : Bool) (all : Children Row) (rest left : List (Span × Tree Row)) (span : Span) (tree : Tree Row) → rest ≡ (span, tree) ∷ left
-    → (AreForms b all ↔ AreForms b (spread rest)) → MayStep b (first_of span) → IsForm (below_step b (first_of span)) tree
-    → AreForms b all ↔ AreForms b (spread left)
+    → (AreForms b all ↔ AreForms b (branches_of_spans rest)) → MayStep b (first_of_span span) → IsForm (below_step b (first_of_span span)) tree
+    → AreForms b all ↔ AreForms b (branches_of_spans left)
 forms_more b all rest left span tree e same may is =
-    let parts = spanned_forms b span tree (spread left) in (
-      λ h. let now = parts.0 (subst (λ spans. AreForms b (spread spans)) e (same.0 h)) in now.2,
-      λ h. same.1 (subst (λ spans. AreForms b (spread spans)) (sym e) (parts.1 (may, is, h))),
+    let parts = spanned_forms b span tree (branches_of_spans left) in (
+      λ h. let now = parts.0 (subst (λ spans. AreForms b (branches_of_spans spans)) e (same.0 h)) in now.2,
+      λ h. same.1 (subst (λ spans. AreForms b (branches_of_spans spans)) (sym e) (parts.1 (may, is, h))),
     )
 
 -- the span at hand is right where all are
 pub forms_first :
     (b : Bool) (all : Children Row) (rest left : List (Span × Tree Row)) (span : Span) (tree : Tree Row) → rest ≡ (span, tree) ∷ left
-    → (AreForms b all ↔ AreForms b (spread rest)) → AreForms b all → MayStep b (first_of span) × IsForm (below_step b (first_of span)) tree
+    → (AreForms b all ↔ AreForms b (branches_of_spans rest)) → AreForms b all → MayStep b (first_of_span span) × IsForm (below_step b (first_of_span span)) tree
 forms_first b all rest left span tree e same h =
-    let now = (spanned_forms b span tree (spread left)).0 (subst (λ spans. AreForms b (spread spans)) e (same.0 h)) in (now.0, now.1)
+    let now = (spanned_forms b span tree (branches_of_spans left)).0 (subst (λ spans. AreForms b (branches_of_spans spans)) e (same.0 h)) in (now.0, now.1)
 
 -- where nothing is left, all are right
-pub forms_all : (b : Bool) (all : Children Row) (rest : List (Span × Tree Row)) → rest ≡ [] → (AreForms b all ↔ AreForms b (spread rest)) → AreForms b all
-forms_all b all rest e same = same.1 (subst (λ spans. AreForms b (spread spans)) (sym e) tt)
+pub forms_all : (b : Bool) (all : Children Row) (rest : List (Span × Tree Row)) → rest ≡ [] → (AreForms b all ↔ AreForms b (branches_of_spans rest)) → AreForms b all
+forms_all b all rest e same = same.1 (subst (λ spans. AreForms b (branches_of_spans spans)) (sym e) tt)
 
 -- a place by its parts
 pub record IsPlaceForm (b : Bool) (tree : Tree Row) : Type 0 where
   pub row : IsPlainRow (row_of tree)
   pub children : AreForms b (below tree)
-  pub rest : IsRestForm (rest_of tree)
+  pub rest : IsRestForm (rest_below tree)
 
 pub form_parts : (b : Bool) (tree : Tree Row) → IsForm b tree → IsPlaceForm b tree
 form_parts b (node row children rest) h = record { row = h.0; children = h.1; rest = h.2 }
@@ -264,11 +264,11 @@ form_parts b (node row children rest) h = record { row = h.0; children = h.1; re
 pub form_whole : (b : Bool) (tree : Tree Row) → IsPlaceForm b tree → IsForm b tree
 form_whole b (node row children rest) h = (h.row, h.children, h.rest)
 
-pub no_rest_form : (tree : Tree Row) → rest_tree (rest_of tree) ≡ None → IsRestForm (rest_of tree)
+pub no_rest_form : (tree : Tree Row) → rest_at (rest_below tree) ≡ None → IsRestForm (rest_below tree)
 no_rest_form (node row children no_rest) e = tt
 no_rest_form (node row children (onward n rest)) e = cc
 
-pub rest_form : (tree rest : Tree Row) → rest_tree (rest_of tree) ≡ Some rest → IsForm true rest ↔ IsRestForm (rest_of tree)
+pub rest_form : (tree rest : Tree Row) → rest_at (rest_below tree) ≡ Some rest → IsForm true rest ↔ IsRestForm (rest_below tree)
 rest_form (node row children no_rest) rest e = cc
 rest_form (node row children (onward n tree)) rest e =
     let same : rest ≡ tree = cc in
@@ -290,7 +290,7 @@ pub plain_all : (labels : List (List ℕ)) (i : ℕ) → length labels ≤ i →
 plain_all labels i done same = same.1 (subst ArePlain (sym (drop_all i labels done)) tt)
 
 -- a well-formed policy has no pattern just where a walk that starts in a list finds it right
-pub plain_form : (tree : Tree Row) → IsTable Refuses IsRow tree → IsWellFormed (Answers tree) → IsForm true tree ↔ IsPlain (Answers tree)
+pub plain_form : (tree : Tree Row) → IsTable RefusesAsked IsRow tree → IsWellFormed (PolicyTreeRefusals tree) → IsForm true tree ↔ IsPlain (PolicyTreeRefusals tree)
 unfolding PatternFrom LeavesOut
 plain_form tree form well = (
   λ h path question r. let row = refusing (row_at tree path) question r in (formed_rows true tree path row.0 h row.1).1,

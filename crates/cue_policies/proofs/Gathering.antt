@@ -6,11 +6,11 @@ use Rattle.cue_lattice.specs.Path.{label, index, Path}
 use Rattle.cue_lattice.specs.Question.{Question}
 use Rattle.cue_row.specs.declared.parts.RowParts.{RowParts as Row}
 use Rattle.cue_table.specs.Depth.{tree_depth, children_depth}
-use Rattle.cue_table.specs.Tree.{Tree, node, Children, none, child, no_rest, onward, below, rest_of, rest_tree, step_into, labels_of, items_of}
+use Rattle.cue_table.specs.Tree.{Tree, node, Children, none, child, no_rest, onward, below, rest_below, rest_at, step_into, labels_of, items_of}
 use Rattle.cue_policies.specs.declared.part.Role.{Role}
 use Rattle.cue_policies.specs.declared.part.ViewPart.{ViewPart}
-use Rattle.cue_policies.specs.Inner.Answers.{Answers}
-use Rattle.cue_policies.specs.Inner.Parts.{IsIn, IsOf, HasLabel, HasAt}
+use Rattle.cue_policies.specs.Inner.Answers.{PolicyTreeRefusals}
+use Rattle.cue_policies.specs.Inner.Parts.{IsIn, IsOf, HasLabel, HasPartAt}
 use Rattle.cue_lattice.specs.Limits.{step_limit}
 use Rattle.cue_row.specs.declared.step.Step.{Step}
 use Rattle.cue_row.specs.declared.step.Step.TheVariants.{Index}
@@ -26,7 +26,7 @@ same_part role branch next e f =
 
 pub add_some :
     (old new : List ViewPart) (part : ViewPart) (role : Role) (l : List ℕ) (branch : Tree Row) → step_into part.branch (label l) ≡ Some branch
-    → new ≡ old ++ (record { role = role; branch = branch }) ∷ [] → (next : ViewPart) → IsIn next new ↔ (IsIn next old ⊎ HasAt part role l next)
+    → new ≡ old ++ (record { role = role; branch = branch }) ∷ [] → (next : ViewPart) → IsIn next new ↔ (IsIn next old ⊎ HasPartAt part role l next)
 add_some old new part role l branch e items next =
     let one : ViewPart = record { role = role; branch = branch } in
     let both = pushed (λ y. y ≡ next) old new one items in (
@@ -37,7 +37,7 @@ add_some old new part role l branch e items next =
 
 pub add_none :
     (old new : List ViewPart) (part : ViewPart) (role : Role) (l : List ℕ) → step_into part.branch (label l) ≡ None → new ≡ old
-    → (next : ViewPart) → IsIn next new ↔ (IsIn next old ⊎ HasAt part role l next)
+    → (next : ViewPart) → IsIn next new ↔ (IsIn next old ⊎ HasPartAt part role l next)
 add_none old new part role l e same next = (
   λ h. inl (subst (IsIn next) same h),
   λ h. ⊎_elim (λ o. subst (IsIn next) (sym same) o) (λ at. let both : None ≡ Some next.branch = sym e ∙ at.0 in absurd (cc)) h,
@@ -80,7 +80,7 @@ items_low (child (index i) tree children) n h = (omega arith, items_low children
 pub items_depth : (tree : Tree Row) → AreBelow (tree_depth tree) (items_of (below tree))
 items_depth (node row children rest) = items_low children (tree_depth (node row children rest)) (omega arith)
 
-pub rest_depth : (tree rest : Tree Row) → rest_tree (rest_of tree) ≡ Some rest → tree_depth rest < tree_depth tree
+pub rest_depth : (tree rest : Tree Row) → rest_at (rest_below tree) ≡ Some rest → tree_depth rest < tree_depth tree
 rest_depth (node row children no_rest) rest e = cc
 rest_depth (node row children (onward n tree)) rest e = let same : tree ≡ rest = cc in let deep = ap tree_depth same in omega arith
 
@@ -103,8 +103,8 @@ pub item_pushed :
     → OneOf (AtStep (index i) path question) new ↔ (OneOf (AtStep (index i) path question) old ⊎ ItemRefuses i path question (number, branch))
 item_pushed i path question old new number table branch same items =
     let both = pushed (AtStep (index i) path question) old new (Index number, table) items in (
-      λ h. ⊎_elim (λ o. inl o) (λ at. inr (number_is at.0, subst (λ t. Answers t path question) same at.1)) (both.0 h),
-      λ h. both.1 (⊎_elim (λ o. inl o) (λ at. inr (ap index at.0, subst (λ t. Answers t path question) (sym same) at.1)) h),
+      λ h. ⊎_elim (λ o. inl o) (λ at. inr (number_is at.0, subst (λ t. PolicyTreeRefusals t path question) same at.1)) (both.0 h),
+      λ h. both.1 (⊎_elim (λ o. inl o) (λ at. inr (ap index at.0, subst (λ t. PolicyTreeRefusals t path question) (sym same) at.1)) h),
     )
   where
     number_is : index number ≡ index i → number ≡ i

@@ -4,11 +4,11 @@ use Rattle.cue_lattice.specs.Path as paths
 use Rattle.cue_lattice.specs.Path.{label, index, step_cmp, Path}
 use Rattle.cue_lattice.specs.Question as questions
 use Rattle.cue_lattice.specs.Question.{Question}
-use Rattle.cue_row.specs.Kinds.{IsKind}
+use Rattle.cue_row.specs.Kinds.{IsRowKind}
 use Rattle.cue_row.specs.Made.{at_level}
 use Rattle.cue_row.specs.Questions.{question_of}
 use Rattle.cue_row.specs.Row as rows
-use Rattle.cue_row.specs.Row.{Refuses, IsRow}
+use Rattle.cue_row.specs.Row.{RefusesAsked, IsRow}
 use Rattle.cue_row.specs.RowLaws.{same_rows}
 use Rattle.cue_row.specs.ValidRow.{IsValidRow, UsualFits, LabelsFit, LengthsFit}
 use Rattle.cue_row.specs.declared.kind.RowKind.{RowKind}
@@ -17,27 +17,27 @@ use Rattle.cue_row.specs.declared.level.Level.TheVariants.{Optional}
 use Rattle.cue_row.specs.declared.question.Question as program
 use Rattle.cue_row.specs.declared.parts.RowParts.{RowParts as Row}
 use Rattle.cue_table.specs.Depth.{tree_depth}
-use Rattle.cue_table.specs.Form.{IsBelowAll, AreBranches, AreWithin, Differs, IsRestOf, IsKept, IsTable}
+use Rattle.cue_table.specs.Form.{IsStepBelowAll, AreBranches, AreWithinDepth, DiffersFromRest, IsRestOf, IsRowKept, IsTable}
 use Rattle.cue_table.specs.Refuses.{RowRefuses, TableRefuses}
-use Rattle.cue_table.specs.Tree.{Tree, node, Children, none, child, Rest, no_rest, onward, empty, row_of, below, rest_of, find, find_with, if_equal, row_at, behind_last, fixed_with}
+use Rattle.cue_table.specs.Tree.{Tree, node, Children, none, child, Rest, no_rest, onward, empty, row_of, below, rest_below, find, find_with, if_equal, row_at, behind_last, fixed_with}
 use Rattle.cue_table.specs.Valid.{MayHold, IsOpenStruct}
 use Rattle.cue_table.specs.Inner.ValidWalk.{IsSound, AreSound, IsRestSound, HasChild, HasElement}
 use Rattle.cue_table.proofs.Depth.{found_row, refusals_depth, refused_depth}
 use Rattle.cue_table.proofs.Exact.{exact_tree}
-use Rattle.cue_policies.specs.View.{IsLevel}
+use Rattle.cue_policies.specs.View.{IsLevelInView}
 use Rattle.cue_policies.specs.declared.part.Role.{Role}
 use Rattle.cue_policies.specs.declared.part.Role.TheVariants as roles
 use Rattle.cue_policies.specs.declared.part.ViewPart.{ViewPart}
-use Rattle.cue_policies.specs.Inner.Answers.{Answers}
+use Rattle.cue_policies.specs.Inner.Answers.{PolicyTreeRefusals}
 use Rattle.cue_policies.specs.Inner.Parts.{IsLoose, held_row, PlaceRefuses, IsPlace, IsSoundTree, IsSoundPart, HasOpenRow, IsLimited, IsFit}
 use Rattle.cue_policies.proofs.Asking.{answered}
 use Rattle.cue_policies.proofs.ValidRows.{loose_row}
 
 abbrev Kept : Row → Type 0
-Kept = IsKept Refuses IsRow
+Kept = IsRowKept RefusesAsked IsRow
 
 -- ---- rows in their role
-pub held_refuses : (role : Role) (row : Row) (question : Question) → rows.RowRefuses (held_row role row) question ↔ (rows.RowRefuses row question × ¬ (IsLoose role × IsLevel question))
+pub held_refuses : (role : Role) (row : Row) (question : Question) → rows.RowRefusesQuestion (held_row role row) question ↔ (rows.RowRefusesQuestion row question × ¬ (IsLoose role × IsLevelInView question))
 held_refuses roles.Layer row question = (λ h. (h, λ g. g.0), λ h. h.0)
 held_refuses roles.Policy row question = (λ h. (h, λ g. g.0), λ h. h.0)
 held_refuses roles.Pattern row question =
@@ -49,7 +49,7 @@ held_is roles.Layer row h = h
 held_is roles.Policy row h = h
 held_is roles.Pattern row h = record { value = h.value; usual = h.usual; labels = h.labels }
 
-pub held_valid : (role : Role) (row : Row) → IsValidRow row → ¬ ((question : program.Question) → ¬ Refuses (held_row role row) question) → IsValidRow (held_row role row)
+pub held_valid : (role : Role) (row : Row) → IsValidRow row → ¬ ((question : program.Question) → ¬ RefusesAsked (held_row role row) question) → IsValidRow (held_row role row)
 held_valid roles.Layer row h some = h
 held_valid roles.Policy row h some = h
 held_valid roles.Pattern row h some = record {
@@ -63,7 +63,7 @@ held_valid roles.Pattern row h some = record {
   not_free = some;
 }
   where
-    kind_of : (kind : RowKind) → IsKind row kind → IsKind (at_level Optional row) kind
+    kind_of : (kind : RowKind) → IsRowKind row kind → IsRowKind (at_level Optional row) kind
     kind_of kinds.Free is = is
     kind_of kinds.Scalar is = is
     kind_of kinds.Struct is = is
@@ -125,7 +125,7 @@ only_label l none = refl
 only_label l (child (label m) tree children) = only_label l children
 only_label l (child (index n) tree children) = only_label l children
 
-only_below : (step : paths.Step) (children : Children Row) → IsBelowAll step children → IsBelowAll step (items_only children)
+only_below : (step : paths.Step) (children : Children Row) → IsStepBelowAll step children → IsStepBelowAll step (items_only children)
 unfolding items_only
 only_below step none h = tt
 only_below step (child (label m) tree children) h = only_below step children h.1
@@ -137,13 +137,13 @@ only_form none h = tt
 only_form (child (label m) tree children) h = only_form children h.3
 only_form (child (index n) tree children) h = (only_below (index n) children h.0, h.1, h.2, only_form children h.3)
 
-only_within : (n : ℕ) (children : Children Row) → AreWithin n children → AreWithin n (items_only children)
+only_within : (n : ℕ) (children : Children Row) → AreWithinDepth n children → AreWithinDepth n (items_only children)
 unfolding items_only
 only_within n none h = tt
 only_within n (child (label m) tree children) h = only_within n children h
 only_within n (child (index i) tree children) h = (h.0, only_within n children h.1)
 
-only_differs : (n : ℕ) (tree : Tree Row) (children : Children Row) → Differs n tree children → Differs n tree (items_only children)
+only_differs : (n : ℕ) (tree : Tree Row) (children : Children Row) → DiffersFromRest n tree children → DiffersFromRest n tree (items_only children)
 only_differs zero tree children h = tt
 only_differs (suc i) tree children h = λ e. h (sym (only_index i children) ∙ e)
 
@@ -171,7 +171,7 @@ only_unfound (onward n tree) l children = only_label l children
 
 -- ---- the place as a tree of its own
 apart : Option Row → Tree Row → Tree Row
-apart row tree = node row (items_only (below tree)) (rest_of tree)
+apart row tree = node row (items_only (below tree)) (rest_below tree)
 
 apart_label : (row : Option Row) (tree : Tree Row) (l : List ℕ) (path : Path) → row_at (apart row tree) (label l ∷ path) ≡ None
 unfolding apart
@@ -185,19 +185,19 @@ RowIs : Option Row → Type 0
 RowIs None = Unit {0}
 RowIs (Some row) = Kept row
 
-apart_form : (tree other : Tree Row) → IsTable Refuses IsRow tree → IsTable Refuses IsRow other → IsTable Refuses IsRow (apart (row_of other) tree)
+apart_form : (tree other : Tree Row) → IsTable RefusesAsked IsRow tree → IsTable RefusesAsked IsRow other → IsTable RefusesAsked IsRow (apart (row_of other) tree)
 unfolding apart
 apart_form (node here children rest) (node row others more) form k = (k.0, only_form children form.1, only_rest children rest form.2)
 
-same_row : (a b : Option Row) (question : program.Question) → a ≡ b → RowRefuses Refuses a question ↔ RowRefuses Refuses b question
-same_row a b question e = (subst (λ o. RowRefuses Refuses o question) e, subst (λ o. RowRefuses Refuses o question) (sym e))
+same_row : (a b : Option Row) (question : program.Question) → a ≡ b → RowRefuses RefusesAsked a question ↔ RowRefuses RefusesAsked b question
+same_row a b question e = (subst (λ o. RowRefuses RefusesAsked o question) e, subst (λ o. RowRefuses RefusesAsked o question) (sym e))
 
 -- the table of a place is that tree
-place_is : (part : ViewPart) (table : Tree Row) → IsTable Refuses IsRow part.branch → IsTable Refuses IsRow table → IsPlace part table → table ≡ apart (row_of table) part.branch
+place_is : (part : ViewPart) (table : Tree Row) → IsTable RefusesAsked IsRow part.branch → IsTable RefusesAsked IsRow table → IsPlace part table → table ≡ apart (row_of table) part.branch
 unfolding apart
-place_is part table form k is = exact_tree Refuses IsRow same_rows table (apart (row_of table) part.branch) k (apart_form part.branch table form k) same
+place_is part table form k is = exact_tree RefusesAsked IsRow same_rows table (apart (row_of table) part.branch) k (apart_form part.branch table form k) same
   where
-    same : (path : Path) (question : program.Question) → TableRefuses Refuses table path question ↔ TableRefuses Refuses (apart (row_of table) part.branch) path question
+    same : (path : Path) (question : program.Question) → TableRefuses RefusesAsked table path question ↔ TableRefuses RefusesAsked (apart (row_of table) part.branch) path question
     same [] question = (λ h. h, λ h. h)
     same (label l ∷ path) question =
         let here = same_row (row_at (apart (row_of table) part.branch) (label l ∷ path)) None question (apart_label (row_of table) part.branch l path) in (
@@ -233,29 +233,29 @@ rest_sound role parent no_rest h = tt
 rest_sound role parent (onward n tree) h = (element_held role parent (row_of tree) h.0, h.1)
 
 -- a list lets no struct stand
-no_struct : (row : Row) (i : ℕ) → MayHold row (index i) → rows.RowRefuses row questions.struct
+no_struct : (row : Row) (i : ℕ) → MayHold row (index i) → rows.RowRefusesQuestion row questions.struct
 no_struct row i h = ⊎_elim (λ is. is.1) (λ is. is.1) h
 
-child_struct : (parent : Row) (i : ℕ) (row : Option Row) → HasChild parent (index i) row → rows.RowRefuses parent questions.struct
+child_struct : (parent : Row) (i : ℕ) (row : Option Row) → HasChild parent (index i) row → rows.RowRefusesQuestion parent questions.struct
 child_struct parent i None h = absurd h
 child_struct parent i (Some row) h = no_struct parent i h.holds
 
-element_struct : (parent : Row) (row : Option Row) → HasElement parent row → rows.RowRefuses parent questions.struct
+element_struct : (parent : Row) (row : Option Row) → HasElement parent row → rows.RowRefusesQuestion parent questions.struct
 element_struct parent None h = absurd h
 element_struct parent (Some row) h = no_struct parent 0 h.holds
 
-none_only : (parent : Row) (children : Children Row) → AreSound parent children → ¬ rows.RowRefuses parent questions.struct → items_only children ≡ none
+none_only : (parent : Row) (children : Children Row) → AreSound parent children → ¬ rows.RowRefusesQuestion parent questions.struct → items_only children ≡ none
 unfolding items_only
 none_only parent none h free = refl
 none_only parent (child (label l) tree children) h free = none_only parent children h.2 free
 none_only parent (child (index i) tree children) h free = absurd (free (child_struct parent i (row_of tree) h.0))
 
-none_rest : (parent : Row) (rest : Rest Row) → IsRestSound parent rest → ¬ rows.RowRefuses parent questions.struct → rest ≡ no_rest
+none_rest : (parent : Row) (rest : Rest Row) → IsRestSound parent rest → ¬ rows.RowRefusesQuestion parent questions.struct → rest ≡ no_rest
 none_rest parent no_rest h free = refl
 none_rest parent (onward n tree) h free = absurd (free (element_struct parent (row_of tree) h.0))
 
 -- with the row that is held at its root
-apart_sound : (role : Role) (tree : Tree Row) (row : Row) → row_of tree ≡ Some row → IsSound tree → ¬ ((question : program.Question) → ¬ Refuses (held_row role row) question) → IsSound (apart (Some (held_row role row)) tree)
+apart_sound : (role : Role) (tree : Tree Row) (row : Row) → row_of tree ≡ Some row → IsSound tree → ¬ ((question : program.Question) → ¬ RefusesAsked (held_row role row) question) → IsSound (apart (Some (held_row role row)) tree)
 unfolding apart
 apart_sound role (node None children rest) row e h some = cc
 apart_sound role (node (Some here) children rest) row e h some =
@@ -269,7 +269,7 @@ apart_sound role (node (Some here) children rest) row e h some =
       rest_sound role row rest is.3,
     )
 
-apart_empty : (tree : Tree Row) (row : Row) → row_of tree ≡ Some row → IsSound tree → ¬ rows.RowRefuses row questions.struct → apart None tree ≡ empty
+apart_empty : (tree : Tree Row) (row : Row) → row_of tree ≡ Some row → IsSound tree → ¬ rows.RowRefusesQuestion row questions.struct → apart None tree ≡ empty
 unfolding apart
 apart_empty (node None children rest) row e h free = cc
 apart_empty (node (Some here) children rest) row e h free =
@@ -283,12 +283,12 @@ sound_row_of : (tree : Tree Row) → IsSound tree → (row : Row) × (row_of tre
 sound_row_of (node None children rest) h = absurd h
 sound_row_of (node (Some row) children rest) h = (row, refl)
 
-refuses_at : (here : Option Row) (row : Row) (question : Question) → here ≡ Some row → RowRefuses rows.RowRefuses here question ↔ rows.RowRefuses row question
-refuses_at here row question e = (subst (λ o. RowRefuses rows.RowRefuses o question) e, subst (λ o. RowRefuses rows.RowRefuses o question) (sym e))
+refuses_at : (here : Option Row) (row : Row) (question : Question) → here ≡ Some row → RowRefuses rows.RowRefusesQuestion here question ↔ rows.RowRefusesQuestion row question
+refuses_at here row question e = (subst (λ o. RowRefuses rows.RowRefusesQuestion o question) e, subst (λ o. RowRefuses rows.RowRefusesQuestion o question) (sym e))
 
 -- what the row of the place refuses
 place_row : (part : ViewPart) (table : Tree Row) (row : Row) → row_of part.branch ≡ Some row → IsPlace part table → (question : Question)
-    → RowRefuses rows.RowRefuses (row_of table) question ↔ rows.RowRefuses (held_row part.role row) question
+    → RowRefuses rows.RowRefusesQuestion (row_of table) question ↔ rows.RowRefusesQuestion (held_row part.role row) question
 place_row part table row e is question =
     let here = is [] question in
     let held = held_refuses part.role row question in
@@ -297,39 +297,39 @@ place_row part table row e is question =
       λ h. let r = held.0 h in here.1 (root.1 r.0, r.1),
     )
 
-same_place_row : (part : ViewPart) (table : Tree Row) (row other : Row) → IsTable Refuses IsRow table → IsRow row → row_of part.branch ≡ Some row → row_of table ≡ Some other → IsRow other → IsPlace part table → other ≡ held_row part.role row
+same_place_row : (part : ViewPart) (table : Tree Row) (row other : Row) → IsTable RefusesAsked IsRow table → IsRow row → row_of part.branch ≡ Some row → row_of table ≡ Some other → IsRow other → IsPlace part table → other ≡ held_row part.role row
 same_place_row part table row other form is_row e f is_other is = same_rows other (held_row part.role row) is_other (held_is part.role row is_row)
     (λ question.
     let q = place_row part table row e is (question_of question) in
     let at = refuses_at (row_of table) other (question_of question) f in
     (λ r. q.0 (at.1 r), λ r. at.0 (q.1 r)))
 
-kept_root : (tree : Tree Row) (row : Row) → IsTable Refuses IsRow tree → row_of tree ≡ Some row → Kept row
+kept_root : (tree : Tree Row) (row : Row) → IsTable RefusesAsked IsRow tree → row_of tree ≡ Some row → Kept row
 kept_root (node None children rest) row form e = cc
 kept_root (node (Some here) children rest) row form e = let same : here ≡ row = cc in subst Kept same form.0
 
-nothing_held : (part : ViewPart) (table : Tree Row) → IsTable Refuses IsRow table → part.branch ≡ empty → IsPlace part table → table ≡ empty
-nothing_held part table form bare is = exact_tree Refuses IsRow same_rows table empty form (tt, tt, tt) same
+nothing_held : (part : ViewPart) (table : Tree Row) → IsTable RefusesAsked IsRow table → part.branch ≡ empty → IsPlace part table → table ≡ empty
+nothing_held part table form bare is = exact_tree RefusesAsked IsRow same_rows table empty form (tt, tt, tt) same
   where
-    none_at : (path : Path) (question : Question) → Answers empty path question → ⊥
+    none_at : (path : Path) (question : Question) → PolicyTreeRefusals empty path question → ⊥
     none_at [] question h = h
     none_at (step ∷ path) question h = h
 
-    bare_at : (path : Path) (question : Question) → Answers part.branch path question → ⊥
-    bare_at path question h = none_at path question (subst (λ t. Answers t path question) bare h)
+    bare_at : (path : Path) (question : Question) → PolicyTreeRefusals part.branch path question → ⊥
+    bare_at path question h = none_at path question (subst (λ t. PolicyTreeRefusals t path question) bare h)
 
     none_held : (path : Path) (question : Question) → PlaceRefuses part path question → ⊥
     none_held [] question h = bare_at [] question h.0
     none_held (label l ∷ path) question h = h
     none_held (index i ∷ path) question h = bare_at (index i ∷ path) question h
 
-    same : (path : Path) (question : program.Question) → TableRefuses Refuses table path question ↔ TableRefuses Refuses empty path question
+    same : (path : Path) (question : program.Question) → TableRefuses RefusesAsked table path question ↔ TableRefuses RefusesAsked empty path question
     same path question = (
       λ h. absurd (none_held path (question_of question) ((is path (question_of question)).0 ((answered table path question).0 h))),
       λ h. absurd (none_at path (question_of question) ((answered empty path question).0 h)),
     )
 
-sound_place : (part : ViewPart) (table : Tree Row) → IsTable Refuses IsRow part.branch → IsTable Refuses IsRow table → IsPlace part table → IsSound part.branch → IsSoundTree table
+sound_place : (part : ViewPart) (table : Tree Row) → IsTable RefusesAsked IsRow part.branch → IsTable RefusesAsked IsRow table → IsPlace part table → IsSound part.branch → IsSoundTree table
 unfolding apart
 sound_place part table form k is sound = by (row_of table) refl
   where
@@ -341,9 +341,9 @@ sound_place part table form k is sound = by (row_of table) refl
 
     by : (here : Option Row) → row_of table ≡ here → IsSoundTree table
     by None e =
-        let free : ¬ rows.RowRefuses root.0 questions.struct = λ r.
+        let free : ¬ rows.RowRefusesQuestion root.0 questions.struct = λ r.
         let held = (held_refuses part.role root.0 questions.struct).1 (r, λ g. g.1) in
-        subst (λ o. RowRefuses rows.RowRefuses o questions.struct) e ((place_row part table root.0 root.1 is questions.struct).1 held) in
+        subst (λ o. RowRefuses rows.RowRefusesQuestion o questions.struct) e ((place_row part table root.0 root.1 is questions.struct).1 held) in
         inl (tree_is ∙ ap (λ row. apart row part.branch) e ∙ apart_empty part.branch root.0 root.1 sound free)
     by (Some other) e =
         let kept = kept_root table other k e in
@@ -352,17 +352,17 @@ sound_place part table form k is sound = by (row_of table) refl
         let whole : table ≡ apart (Some (held_row part.role root.0)) part.branch = tree_is ∙ ap (λ row. apart row part.branch) (e ∙ ap Some same) in
         inr (subst IsSound (sym whole) (apart_sound part.role part.branch root.0 root.1 sound some.1))
 
-place_depth : (part : ViewPart) (table : Tree Row) → IsTable Refuses IsRow table → IsPlace part table → tree_depth table ≤ tree_depth part.branch
-place_depth part table k is = refusals_depth Refuses IsRow table (tree_depth part.branch) k (λ path question r.
+place_depth : (part : ViewPart) (table : Tree Row) → IsTable RefusesAsked IsRow table → IsPlace part table → tree_depth table ≤ tree_depth part.branch
+place_depth part table k is = refusals_depth RefusesAsked IsRow table (tree_depth part.branch) k (λ path question r.
     let h = (is path (question_of question)).0 ((answered table path question).0 r) in
-    refused_depth Refuses part.branch path question ((answered part.branch path question).1 (refused path (question_of question) h)))
+    refused_depth RefusesAsked part.branch path question ((answered part.branch path question).1 (refused path (question_of question) h)))
   where
-    refused : (path : Path) (question : Question) → PlaceRefuses part path question → Answers part.branch path question
+    refused : (path : Path) (question : Question) → PlaceRefuses part path question → PolicyTreeRefusals part.branch path question
     refused [] question h = h.0
     refused (label l ∷ path) question h = absurd h
     refused (index i ∷ path) question h = h
 
-place_open : (part : ViewPart) (table : Tree Row) → IsTable Refuses IsRow part.branch → IsTable Refuses IsRow table → IsPlace part table → IsSoundTree part.branch → HasOpenRow part.branch → HasOpenRow table
+place_open : (part : ViewPart) (table : Tree Row) → IsTable RefusesAsked IsRow part.branch → IsTable RefusesAsked IsRow table → IsPlace part table → IsSoundTree part.branch → HasOpenRow part.branch → HasOpenRow table
 place_open part table form k is sound opens other e = ⊎_elim
     (λ bare.
     let non : None ≡ Some other = ap row_of (sym (nothing_held part table k bare is)) ∙ e in
@@ -374,7 +374,7 @@ place_open part table form k is sound opens other e = ⊎_elim
     subst (λ (r : Row). IsOpenStruct r × (r.level ≡ Optional)) (sym same) (held_open part.role root.0 (opens root.0 root.1)))
     sound
 
-pub place_fit : (top : Bool) (part : ViewPart) (table : Tree Row) → IsTable Refuses IsRow table → IsPlace part table → IsSoundPart part → IsLimited top part.branch → IsFit top table
+pub place_fit : (top : Bool) (part : ViewPart) (table : Tree Row) → IsTable RefusesAsked IsRow table → IsPlace part table → IsSoundPart part → IsLimited top part.branch → IsFit top table
 place_fit true part table k is sound limited = (
   ⊎_elim (λ bare. inl (nothing_held part table k bare is)) (λ whole. sound_place part table sound.form k is whole) sound.sound,
   (let d = place_depth part table k is in let most = limited.0 in omega arith, place_open part table sound.form k is sound.sound limited.1),

@@ -5,16 +5,16 @@ use Rattle.std.specs.Ordering.{nat_cmp}
 use Rattle.std.specs.Cmp.Lexicographic.{slice_cmp}
 use Rattle.std.specs.declared.cmp.Ordering.TheVariants.{Less}
 use Rattle.std.proofs.lemmas.Cmp.{nat_list_cmp_total}
-use Rattle.cue_lattice.specs.Document.{Document, scalar, list, map, Items, no_items, item, Members, no_members, member, length_of, Has, IsBefore, IsDocument, AreItems, AreMembers}
+use Rattle.cue_lattice.specs.Document.{Document, scalar, list, map, Items, no_items, item, Members, no_members, member, length_of, HasMember, IsPathBefore, IsDocument, AreItems, AreMembers}
 use Rattle.cue_lattice.specs.Meets.{at_label, at_index, Meets, ItemsMeet, MembersMeet}
 use Rattle.cue_lattice.specs.Path as paths
 use Rattle.cue_lattice.specs.Path.{label, index, Path}
 use Rattle.cue_lattice.specs.Question as questions
 use Rattle.cue_lattice.specs.Question.{Question, Refusals, level_at_most, length_at_most, length_at_least}
 use Rattle.cue_row.specs.Row as rows
-use Rattle.cue_row.specs.Row.{Refuses, IsRow}
+use Rattle.cue_row.specs.Row.{RefusesAsked, IsRow}
 use Rattle.cue_row.specs.declared.parts.RowParts.{RowParts as Row}
-use Rattle.cue_table.specs.Form.{IsKept, IsTable}
+use Rattle.cue_table.specs.Form.{IsRowKept, IsTable}
 use Rattle.cue_table.specs.Refuses.{RowRefuses}
 use Rattle.cue_table.specs.Tree.{Tree, node, step_into}
 use Rattle.cue_table.proofs.Depth.{found_row}
@@ -30,7 +30,7 @@ abbrev into : Option (Tree Row) → paths.Step → Option (Tree Row)
 into found step = option_and_then (λ tree. step_into tree step) found
 
 abbrev FoundRefuses : Option (Tree Row) → Refusals
-FoundRefuses found path question = RowRefuses rows.RowRefuses (found_row found path) question
+FoundRefuses found path question = RowRefuses rows.RowRefusesQuestion (found_row found path) question
 
 one_step : (found : Option (Tree Row)) (step : paths.Step) (path : Path) → found_row found (step ∷ path) ≡ found_row (into found step) path
 one_step None step path = refl
@@ -41,7 +41,7 @@ Same r found = (path : Path) (question : Question) → r path question ↔ Found
 
 same_below : (r : Refusals) (found : Option (Tree Row)) (step : paths.Step) → Same r found → Same (λ path. r (step ∷ path)) (into found step)
 same_below r found step same path question =
-    subst (λ row. r (step ∷ path) question ↔ RowRefuses rows.RowRefuses row question) (one_step found step path) (same (step ∷ path) question)
+    subst (λ row. r (step ∷ path) question ↔ RowRefuses rows.RowRefusesQuestion row question) (one_step found step path) (same (step ∷ path) question)
 
 found_there : (found : Option (Tree Row)) (path : Path) (question : Question) → FoundRefuses found path question → (tree : Tree Row) × (found ≡ Some tree)
 found_there None path question h = absurd h
@@ -49,13 +49,13 @@ found_there (Some tree) path question h = (tree, refl)
 
 -- a place of a valid table, or nothing
 abbrev IsGood : Option (Tree Row) → Type 0
-IsGood found = (tree : Tree Row) → found ≡ Some tree → IsTable Refuses IsRow tree × IsSoundTree tree
+IsGood found = (tree : Tree Row) → found ≡ Some tree → IsTable RefusesAsked IsRow tree × IsSoundTree tree
 
 good_into : (found : Option (Tree Row)) (step : paths.Step) → IsGood found → IsGood (into found step)
 good_into None step good tree e = let non : None ≡ Some tree = e in cc
 good_into (Some here) step good tree e =
     let is = good here refl in
-    ((found_form (IsKept Refuses IsRow) step here tree is.0 e).1, inr (tree_into here tree step is.1 e).3)
+    ((found_form (IsRowKept RefusesAsked IsRow) step here tree is.0 e).1, inr (tree_into here tree step is.1 e).3)
 
 -- ---- the document
 keep : Option (Tree Row) → List ℕ → Document → Members → Members
@@ -86,18 +86,18 @@ unfolding keep
 kept None tree l d members e = cc
 kept (Some here) tree l d members e = refl
 
-has_keep : (o : Option (Tree Row)) (l m : List ℕ) (d : Document) (members : Members) → Has m members → Has m (keep o l d members)
+has_keep : (o : Option (Tree Row)) (l m : List ℕ) (d : Document) (members : Members) → HasMember m members → HasMember m (keep o l d members)
 unfolding keep
 has_keep None l m d members h = h
 has_keep (Some tree) l m d members h = inr h
 
-has_pruned : (found : Option (Tree Row)) (members : Members) (l : List ℕ) (tree : Tree Row) → into found (label l) ≡ Some tree → Has l members → Has l (pruned_members found members)
+has_pruned : (found : Option (Tree Row)) (members : Members) (l : List ℕ) (tree : Tree Row) → into found (label l) ≡ Some tree → HasMember l members → HasMember l (pruned_members found members)
 unfolding pruned
 has_pruned found no_members l tree e h = absurd h
 has_pruned found (member m d members) l tree e h = ⊎_elim
     (λ (same : m ≡ l).
     let there : into found (label m) ≡ Some tree = subst (λ k. into found (label k) ≡ Some tree) (sym same) e in
-    subst (Has l) (sym (kept (into found (label m)) tree m (pruned (into found (label m)) d) (pruned_members found members) there)) (inl same))
+    subst (HasMember l) (sym (kept (into found (label m)) tree m (pruned (into found (label m)) d) (pruned_members found members) there)) (inl same))
     (λ rest. has_keep (into found (label m)) m l (pruned (into found (label m)) d) (pruned_members found members) (has_pruned found members l tree e rest))
     h
 
@@ -169,16 +169,16 @@ mutual
       (pruned_declared (at_label r l) (into found (label l)) d (same_below r found (label l) same) (good_into found (label l) good))
 
 -- ---- it is a document
-keep_before : (o : Option (Tree Row)) (k l : List ℕ) (d : Document) (members : Members) → slice_cmp nat_cmp k l ≡ Less → IsBefore k members → IsBefore k (keep o l d members)
+keep_before : (o : Option (Tree Row)) (k l : List ℕ) (d : Document) (members : Members) → slice_cmp nat_cmp k l ≡ Less → IsPathBefore k members → IsPathBefore k (keep o l d members)
 unfolding keep
 keep_before None k l d members less h = h
 keep_before (Some tree) k l d members less h = less
 
-before_all : (k l : List ℕ) (members : Members) → slice_cmp nat_cmp k l ≡ Less → IsBefore l members → IsBefore k members
+before_all : (k l : List ℕ) (members : Members) → slice_cmp nat_cmp k l ≡ Less → IsPathBefore l members → IsPathBefore k members
 before_all k l no_members less h = tt
 before_all k l (member m d members) less h = nat_list_cmp_total.trans k l m less h
 
-pruned_before : (found : Option (Tree Row)) (k : List ℕ) (members : Members) → AreMembers members → IsBefore k members → IsBefore k (pruned_members found members)
+pruned_before : (found : Option (Tree Row)) (k : List ℕ) (members : Members) → AreMembers members → IsPathBefore k members → IsPathBefore k (pruned_members found members)
 unfolding pruned
 pruned_before found k no_members are h = tt
 pruned_before found k (member l d members) are h =

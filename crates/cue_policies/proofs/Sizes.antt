@@ -14,23 +14,23 @@ use Rattle.cue_lattice.specs.Path.{label, Path, step_cmp}
 use Rattle.cue_lattice.specs.Question.{Question, SameAnswers}
 use Rattle.cue_row.specs.Questions.{question_of}
 use Rattle.cue_row.specs.Row as rows
-use Rattle.cue_row.specs.Row.{Refuses, IsRow}
+use Rattle.cue_row.specs.Row.{RefusesAsked, IsRow}
 use Rattle.cue_row.specs.RowLaws.{same_rows}
 use Rattle.cue_row.specs.Steps.{step_of}
 use Rattle.cue_row.specs.declared.step.Step.{Step}
 use Rattle.cue_row.specs.declared.step.Step.TheVariants.{Label}
 use Rattle.cue_row.specs.declared.parts.RowParts.{RowParts as Row}
-use Rattle.cue_table.specs.Form.{IsKept, IsTable}
+use Rattle.cue_table.specs.Form.{IsRowKept, IsTable}
 use Rattle.cue_table.specs.Refuses.{RowRefuses}
 use Rattle.cue_table.specs.Tree.{Tree, node, Rest, no_rest, onward, empty, row_of, below, find, step_into, branch_at}
 use Rattle.cue_table.proofs.Exact.{exact_tree}
 use Rattle.cue_table.proofs.Finding.{found_form, same_step}
 use Rattle.cue_policies.specs.Rows.{row_count, HasMoreRows, IsViewError}
-use Rattle.cue_policies.specs.View.{Declares}
+use Rattle.cue_policies.specs.View.{DeclaresAt}
 use Rattle.cue_policies.specs.declared.error.ViewError.{ViewError}
 use Rattle.cue_policies.specs.declared.error.ViewError.TheVariants as errors
 use Rattle.cue_policies.specs.declared.part.ViewPart.{ViewPart}
-use Rattle.cue_policies.specs.Inner.Answers.{Answers}
+use Rattle.cue_policies.specs.Inner.Answers.{PolicyTreeRefusals}
 use Rattle.cue_policies.specs.Inner.Parts.{part_of, PartsRefuse, IsIn, IsField, IsBelow, HasLabels}
 use Rattle.cue_policies.specs.Inner.Rows.{tree_rows, children_rows}
 use Rattle.cue_policies.proofs.Apart as apart
@@ -53,15 +53,15 @@ if_err_weaker (Ok x) P Q f h = h
 if_err_weaker (Err e) P Q f h = f e h
 
 -- ---- tables with equal answers
-pub same_tables : (a b : Tree Row) → IsTable Refuses IsRow a → IsTable Refuses IsRow b → SameAnswers (Answers a) (Answers b) → a ≡ b
-same_tables a b h k same = exact_tree Refuses IsRow same_rows a b h k (λ path question.
+pub same_tables : (a b : Tree Row) → IsTable RefusesAsked IsRow a → IsTable RefusesAsked IsRow b → SameAnswers (PolicyTreeRefusals a) (PolicyTreeRefusals b) → a ≡ b
+same_tables a b h k same = exact_tree RefusesAsked IsRow same_rows a b h k (λ path question.
     let here = same path (question_of question) in (
       λ r. (answered b path question).1 (here.0 ((answered a path question).0 r)),
       λ r. (answered a path question).1 (here.1 ((answered b path question).0 r)),
     ))
 
 -- a table and its rows are those of all tables with its answers
-pub more_rows : (most : ℕ) (table : Tree Row) (refuses : Path → Question → Type 0) → IsTable Refuses IsRow table → SameAnswers (Answers table) refuses → most < row_count table → HasMoreRows most refuses
+pub more_rows : (most : ℕ) (table : Tree Row) (refuses : Path → Question → Type 0) → IsTable RefusesAsked IsRow table → SameAnswers (PolicyTreeRefusals table) refuses → most < row_count table → HasMoreRows most refuses
 more_rows most table refuses form same more other form' same' =
     let is = same_tables table other form form' (λ path question. (λ r. (same' path question).1 ((same path question).0 r), λ r. (same path question).1 ((same' path question).0 r))) in
     subst (λ t. most < row_count t) is more
@@ -78,8 +78,8 @@ into_label : (tree : Tree Row) (l : List ℕ) → step_into tree (label l) ≡ f
 into_label (node row children no_rest) l = refl
 into_label (node row children (onward n rest)) l = refl
 
-no_branch : (tree : Tree Row) (s : paths.Step) → step_into tree s ≡ None → (path : Path) (question : Question) → ¬ Answers tree (s ∷ path) question
-no_branch tree s e path question h = subst (λ (o : Option (Tree Row)). RowRefuses rows.RowRefuses (option_and_then row_of (option_and_then (λ b. branch_at b path) o)) question) e h
+no_branch : (tree : Tree Row) (s : paths.Step) → step_into tree s ≡ None → (path : Path) (question : Question) → ¬ PolicyTreeRefusals tree (s ∷ path) question
+no_branch tree s e path question h = subst (λ (o : Option (Tree Row)). RowRefuses rows.RowRefusesQuestion (option_and_then row_of (option_and_then (λ b. branch_at b path) o)) question) e h
 
 -- ---- fields
 abbrev pub field_step : Step × Tree Row → paths.Step
@@ -146,7 +146,7 @@ counted_more l fields new table count more items counted few =
     let rows = rows_counted table in
     subst (λ fs. count + more ≤ rows_of_fields fs) (sym items) (omega (arith, sum, rows, counted, few))
 
-module _ (parts : List ViewPart) (view : Tree Row) (form : IsTable Refuses IsRow view) (same : SameAnswers (Answers view) (PartsRefuse parts)) where
+module _ (parts : List ViewPart) (view : Tree Row) (form : IsTable RefusesAsked IsRow view) (same : SameAnswers (PolicyTreeRefusals view) (PartsRefuse parts)) where
   found_or_free : (field : Step × Tree Row) → IsField parts field → (tree_rows field.1 ≡ 0) ⊎ (find (step_of field.0) (below view) ≡ Some field.1)
   found_or_free field is = by (step_into view (label is.at)) refl
     where
@@ -158,11 +158,11 @@ module _ (parts : List ViewPart) (view : Tree Row) (form : IsTable Refuses IsRow
           )) in
           inl (ap (λ t. tree_rows t) free)
         where
-          none_refused : (path : Path) (question : Question) → ¬ Answers empty path question
+          none_refused : (path : Path) (question : Question) → ¬ PolicyTreeRefusals empty path question
           none_refused [] question r = r
           none_refused (step ∷ path) question r = r
       by (Some tree) e =
-          let good = found_form (IsKept Refuses IsRow) (label is.at) view tree form e in
+          let good = found_form (IsRowKept RefusesAsked IsRow) (label is.at) view tree form e in
           let one : tree ≡ field.1 = same_tables tree field.1 good.1 is.form (λ path question. (
             λ r. (is.refused path question).1 ((same (label is.at ∷ path) question).0 (out_of_branch view tree (label is.at) e path question r)),
             λ r. into_branch view tree (label is.at) e path question ((same (label is.at ∷ path) question).1 ((is.refused path question).0 r)),
@@ -194,11 +194,11 @@ module _ (parts : List ViewPart) (view : Tree Row) (form : IsTable Refuses IsRow
             λ r. absurd (no_branch view (label l) e path question ((same (label l ∷ path) question).1 ((behind path question).1 r))),
           )) in omega (arith, none))
         where
-          none_refused : (path : Path) (question : Question) → ¬ Answers empty path question
+          none_refused : (path : Path) (question : Question) → ¬ PolicyTreeRefusals empty path question
           none_refused [] question r = r
           none_refused (step ∷ path) question r = r
       by (Some tree) e =
-          let good = found_form (IsKept Refuses IsRow) (label l) view tree form e in
+          let good = found_form (IsRowKept RefusesAsked IsRow) (label l) view tree form e in
           let large = more tree good.1 (λ path question. (
             λ r. (behind path question).0 ((same (label l ∷ path) question).0 (out_of_branch view tree (label l) e path question r)),
             λ r. into_branch view tree (label l) e path question ((same (label l ∷ path) question).1 ((behind path question).1 r)),
@@ -219,7 +219,7 @@ module _ (parts : List ViewPart) (view : Tree Row) (form : IsTable Refuses IsRow
 -- so where a field is too large, the view is
 pub field_too_large :
     (parts found : List ViewPart) (patterns : List (List ℕ)) (l : List ℕ) (left : List (List ℕ)) (fields : List (Step × Tree Row)) (count most : ℕ) → HasLabels true parts patterns
-    → ((next : ViewPart) → IsIn next found ↔ OneOf (λ part. IsBelow patterns l part next) parts) → OneOf (λ part. Declares (part_of part) [] l) parts
+    → ((next : ViewPart) → IsIn next found ↔ OneOf (λ part. IsBelow patterns l part next) parts) → OneOf (λ part. DeclaresAt (part_of part) [] l) parts
     → ((field : Step × Tree Row) → IsIn field fields → IsField parts field) → AreApart left fields → IsIn l left
     → count ≤ rows_of_fields fields → count ≤ most → HasMoreRows (most - count) (PartsRefuse found) → HasMoreRows most (PartsRefuse parts)
 field_too_large parts found patterns l left fields count most known are declared made far here counted within more view form same =

@@ -9,7 +9,7 @@ use Rattle.std.proofs.lemmas.Str.{IsUtf8-nil}
 use Rattle.cue_lattice.specs.declared.scalar.Scalar.TheVariants as scalars
 use Rattle.cue_row.specs.Kinds.{IsEmptySet}
 use Rattle.cue_row.specs.Made.{empty_set, struct_row}
-use Rattle.cue_row.specs.Row.{Refuses, IsRow}
+use Rattle.cue_row.specs.Row.{RefusesAsked, IsRow}
 use Rattle.cue_row.specs.ValidRow.{IsValidRow}
 use Rattle.cue_row.specs.declared.kind.RowKind.TheVariants as kinds
 use Rattle.cue_row.specs.declared.level.Level.TheVariants.{Optional}
@@ -17,10 +17,10 @@ use Rattle.cue_row.specs.declared.question.Question as program
 use Rattle.cue_row.specs.declared.question.Question.TheVariants as asks
 use Rattle.cue_row.specs.declared.parts.RowParts.{RowParts as Row}
 use Rattle.cue_table.specs.Depth.{tree_depth}
-use Rattle.cue_table.specs.Form.{IsKept, IsTable}
+use Rattle.cue_table.specs.Form.{IsRowKept, IsTable}
 use Rattle.cue_table.specs.Meet.{IsMet}
 use Rattle.cue_table.specs.Refuses.{RowRefuses}
-use Rattle.cue_table.specs.Tree.{Tree, node, Children, none, child, Rest, no_rest, onward, empty, row_of, taken, find, find_with, step_into, if_equal, row_at}
+use Rattle.cue_table.specs.Tree.{Tree, node, Children, none, child, Rest, no_rest, onward, empty, row_of, if_not_empty, find, find_with, step_into, if_equal, row_at}
 use Rattle.cue_table.specs.Valid.{IsOpenStruct, IsValidTable}
 use Rattle.cue_table.specs.Inner.ValidWalk.{IsSound, AreSound, IsRestSound, HasChild, HasElement, MayStand}
 use Rattle.cue_table.proofs.Depth.{row_found, met_depth}
@@ -132,12 +132,12 @@ hang None = none
 hang (Some tree) = child (label []) tree none
 
 hung : Tree Row → Tree Row
-hung tree = node (Some root_row) (hang (taken tree)) no_rest
+hung tree = node (Some root_row) (hang (if_not_empty tree)) no_rest
 
-root_kept : IsKept Refuses IsRow root_row
+root_kept : IsRowKept RefusesAsked IsRow root_row
 root_kept = (root_is, λ free. free asks.List refl)
 
-hung_form : (tree : Tree Row) → IsTable Refuses IsRow tree → IsTable Refuses IsRow (hung tree)
+hung_form : (tree : Tree Row) → IsTable RefusesAsked IsRow tree → IsTable RefusesAsked IsRow (hung tree)
 unfolding hung hang
 hung_form (node None none no_rest) form = (root_kept, tt, tt)
 hung_form (node None none (onward n rest)) form = (root_kept, (tt, tt, form, tt), tt)
@@ -180,7 +180,7 @@ unfolding hung
 hung_root tree = refl
 
 Union : Option Row → Option Row → Option Row → Type 0
-Union a b m = (question : program.Question) → RowRefuses Refuses m question ↔ (RowRefuses Refuses a question ⊎ RowRefuses Refuses b question)
+Union a b m = (question : program.Question) → RowRefuses RefusesAsked m question ↔ (RowRefuses RefusesAsked a question ⊎ RowRefuses RefusesAsked b question)
 
 union_as : (a b m c d n : Option Row) → c ≡ a → d ≡ b → n ≡ m → Union a b m → Union c d n
 union_as a b m c d n e f g h = subst (λ x. Union x d n) (sym e) (subst (λ y. Union a y n) (sym f) (subst (λ z. Union a b z) (sym g) h))
@@ -189,7 +189,7 @@ union_none : Union None None None
 unfolding Union
 union_none question = (λ h. absurd h, λ h. ⊎_elim (λ x. x) (λ x. x) h)
 
-hung_met : (a b m : Tree Row) → IsMet Refuses a b m → IsMet Refuses (hung a) (hung b) (hung m)
+hung_met : (a b m : Tree Row) → IsMet RefusesAsked a b m → IsMet RefusesAsked (hung a) (hung b) (hung m)
 unfolding Union hung
 hung_met a b m met [] = λ question. (λ h. inl h, λ h. ⊎_elim (λ x. x) (λ x. x) h)
 hung_met a b m met (label [] ∷ path) =
@@ -226,21 +226,21 @@ sound_hung (node None (child step tree children) rest) h = inr h.2.1
 sound_hung (node (Some row) children rest) h = inr h.2.1
 
 -- ---- what is met of two places
-deep_met : (a b m : Tree Row) → IsTable Refuses IsRow a → IsTable Refuses IsRow b → IsTable Refuses IsRow m → IsMet Refuses a b m → IsFit false a → IsFit false b → IsFit false m
+deep_met : (a b m : Tree Row) → IsTable RefusesAsked IsRow a → IsTable RefusesAsked IsRow b → IsTable RefusesAsked IsRow m → IsMet RefusesAsked a b m → IsFit false a → IsFit false b → IsFit false m
 deep_met a b m form_a form_b form met h k =
-    let valid = λ (t : Tree Row) (form : IsTable Refuses IsRow t) (fit : IsFit false t).
+    let valid = λ (t : Tree Row) (form : IsTable RefusesAsked IsRow t) (fit : IsFit false t).
     (valid_walk (hung t) root_row (hung_form t form) (hung_depth t fit.1) (hung_root t)).0 (root_open, hung_sound t fit.0) in
-    let depth : tree_depth m < step_limit = let d = met_depth Refuses IsRow a b m 63 form met (omega (arith, h.1)) (omega (arith, k.1)) in omega arith in
+    let depth : tree_depth m < step_limit = let d = met_depth RefusesAsked IsRow a b m 63 form met (omega (arith, h.1)) (omega (arith, k.1)) in omega arith in
     let met_valid = met_tables (hung a) (hung b) (hung m) (hung_form m form) (hung_met a b m met) (valid a form_a h) (valid b form_b k) in
     (sound_hung m ((valid_walk (hung m) root_row (hung_form m form) (hung_depth m depth) (hung_root m)).1 met_valid).1, depth)
 
 -- a tree that may be the root is a valid table
-pub root_is_valid : (tree : Tree Row) → IsTable Refuses IsRow tree → IsFit true tree → IsValidTable tree
+pub root_is_valid : (tree : Tree Row) → IsTable RefusesAsked IsRow tree → IsFit true tree → IsValidTable tree
 root_is_valid tree form h = ⊎_elim
     (λ bare. subst IsValidTable (sym bare) empty_valid)
     (λ sound. with_row tree form sound h.1.0 h.1.1) h.0
   where
-    with_row : (tree : Tree Row) → IsTable Refuses IsRow tree → IsSound tree → tree_depth tree ≤ step_limit → HasOpenRow tree → IsValidTable tree
+    with_row : (tree : Tree Row) → IsTable RefusesAsked IsRow tree → IsSound tree → tree_depth tree ≤ step_limit → HasOpenRow tree → IsValidTable tree
     with_row (node None children rest) form sound deep opens = absurd sound
     with_row (node (Some row) children rest) form sound deep opens =
         (valid_walk (node (Some row) children rest) row form deep refl).0 (opens row refl, sound)
@@ -256,12 +256,12 @@ valid_is_root tree h deep = by (row_of tree) refl
         let walk = (valid_walk tree row h.form deep e).1 h in
         (inr walk.1, (deep, λ other f. let both : Some row ≡ Some other = sym e ∙ f in let same : row ≡ other = cc in subst (λ (r : Row). IsOpenStruct r × (r.level ≡ Optional)) same walk.0))
 
-root_met : (a b m : Tree Row) → IsTable Refuses IsRow a → IsTable Refuses IsRow b → IsTable Refuses IsRow m → IsMet Refuses a b m → IsFit true a → IsFit true b → IsFit true m
+root_met : (a b m : Tree Row) → IsTable RefusesAsked IsRow a → IsTable RefusesAsked IsRow b → IsTable RefusesAsked IsRow m → IsMet RefusesAsked a b m → IsFit true a → IsFit true b → IsFit true m
 root_met a b m form_a form_b form met h k =
-    valid_is_root m (met_tables a b m form met (root_is_valid a form_a h) (root_is_valid b form_b k)) (met_depth Refuses IsRow a b m step_limit form met h.1.0 k.1.0)
+    valid_is_root m (met_tables a b m form met (root_is_valid a form_a h) (root_is_valid b form_b k)) (met_depth RefusesAsked IsRow a b m step_limit form met h.1.0 k.1.0)
 
 -- what is met of two places of valid tables is one
-pub met_fit : (top : Bool) (a b m : Tree Row) → IsTable Refuses IsRow a → IsTable Refuses IsRow b → IsTable Refuses IsRow m → IsMet Refuses a b m → IsFit top a → IsFit top b → IsFit top m
+pub met_fit : (top : Bool) (a b m : Tree Row) → IsTable RefusesAsked IsRow a → IsTable RefusesAsked IsRow b → IsTable RefusesAsked IsRow m → IsMet RefusesAsked a b m → IsFit top a → IsFit top b → IsFit top m
 met_fit true a b m = root_met a b m
 met_fit false a b m = deep_met a b m
 

@@ -4,9 +4,9 @@ use Rattle.std.proofs.Common.{◌≤◌, ◌↔◌, Some}
 use Rattle.std.specs.List.{AllByRecursion}
 use Rattle.cue_lattice.specs.Limits.{step_limit}
 use Rattle.cue_lattice.proofs.Meeting.{same}
-use Rattle.cue_row.specs.Row.{Refuses, IsRow}
+use Rattle.cue_row.specs.Row.{RefusesAsked, IsRow}
 use Rattle.cue_table.specs.Depth.{tree_depth}
-use Rattle.cue_table.specs.Form.{IsKept, IsTable}
+use Rattle.cue_table.specs.Form.{IsRowKept, IsTable}
 use Rattle.cue_table.specs.Valid.{IsValidTable}
 use Rattle.cue_table.proofs.Depth.{depth_rows}
 use Rattle.cue_policies.specs.Inner.Parts.{IsSoundTree}
@@ -19,11 +19,11 @@ use Rattle.cue_lattice.specs.Question.{Question, Refusals}
 use Rattle.cue_row.specs.declared.parts.RowParts.{RowParts as Row}
 use Rattle.cue_table.specs.Tree.{Tree}
 use Rattle.cue_policies.specs.Documents.{Admits, ItemsAdmitted, MembersAdmitted}
-use Rattle.cue_policies.specs.Laws.{Parts, MoreRefuseMore, OrderIsNothing, IsUnifiedOf, TwoAreAll, HasNoPattern, PlainIsUnified, PatternsAreNoLabels, PartAdmits, LayersAdmit, AdmittedMeet, MeetingAreAdmitted, SomeAreAdmitted}
+use Rattle.cue_policies.specs.Laws.{LawParts, MoreRefuseMore, OrderIsNothing, IsUnifiedOf, TwoAreAll, PartsHaveNoPattern, PlainIsUnified, PatternsAreNoLabels, PartAdmits, LayersAdmit, AdmittedMeet, MeetingAreAdmitted, SomeAreAdmitted}
 use Rattle.cue_policies.specs.Patterns.{IsPattern, IsPatternOf}
 use Rattle.cue_policies.specs.Tables.{table_part, TablesRefuse}
-use Rattle.cue_policies.specs.View.{Declares}
-use Rattle.cue_policies.specs.Inner.Answers.{Answers}
+use Rattle.cue_policies.specs.View.{DeclaresAt}
+use Rattle.cue_policies.specs.Inner.Answers.{PolicyTreeRefusals}
 use Rattle.cue_policies.specs.Inner.Below.{HasPatternOf}
 use Rattle.cue_policies.specs.declared.kind.LayerKind.{LayerKind}
 use Rattle.cue_policies.specs.declared.kind.LayerKind.TheVariants.{Layer, Policy}
@@ -41,7 +41,7 @@ table_of : Tree Row → Tree Row → LayerKind → Tree Row
 table_of layers policies Layer = layers
 table_of layers policies Policy = policies
 
-unified_kind : (parts : Parts) (layers policies : Tree Row) → IsUnifiedOf Layer parts layers → IsUnifiedOf Policy parts policies → (kind : LayerKind) → IsUnifiedOf kind parts (table_of layers policies kind)
+unified_kind : (parts : LawParts) (layers policies : Tree Row) → IsUnifiedOf Layer parts layers → IsUnifiedOf Policy parts policies → (kind : LayerKind) → IsUnifiedOf kind parts (table_of layers policies kind)
 unfolding table_of
 unified_kind parts layers policies h k Layer = h
 unified_kind parts layers policies h k Policy = k
@@ -49,7 +49,7 @@ unified_kind parts layers policies h k Policy = k
 pub two : TwoAreAll
 unfolding table_of
 two parts layers policies h k path question =
-    let unified : LayerKind → Refusals = λ kind. Answers (table_of layers policies kind) in
+    let unified : LayerKind → Refusals = λ kind. PolicyTreeRefusals (table_of layers policies kind) in
     let whole = view_of_wholes table_part parts unified (λ kind p q. unified_kind parts layers policies h k kind p q) path question in
     let to = view_as table_part ((Layer, layers) ∷ (Policy, policies) ∷ []) (λ kind. record { kind = kind; refuses = unified kind }) (Layer ∷ Policy ∷ []) (λ p q r. r) (λ p l r. r) path question in
     let from = view_as (λ kind. record { kind = kind; refuses = unified kind }) (Layer ∷ Policy ∷ []) table_part ((Layer, layers) ∷ (Policy, policies) ∷ []) (λ p q r. r) (λ p l r. r) path question in
@@ -76,7 +76,7 @@ in_all P (x ∷ xs) h = (h x (inl refl), in_all P xs (λ y is. h y (inr is)))
 pub plain_unified : PlainIsUnified
 plain_unified parts all path question =
     plain_view table_part parts
-    (λ part is p q r has. let at = pattern_at part.0 p has in all_in HasNoPattern parts all part is p q r at.0 at.1 at.2 at.3 at.4) path question
+    (λ part is p q r has. let at = pattern_at part.0 p has in all_in PartsHaveNoPattern parts all part is p q r at.0 at.1 at.2 at.3 at.4) path question
 
 -- ---- patterns are no labels
 is_layer : (kind : LayerKind) (l : List ℕ) → IsPattern l → ¬ IsPatternOf kind l → kind ≡ Layer
@@ -85,8 +85,8 @@ is_layer Policy l is plain = absurd (plain is)
 
 pub no_labels : PatternsAreNoLabels
 no_labels parts path question h place l further e is =
-    let one = pick (λ part. Declares (table_part part) place l) parts (h.0 place l further e) in
-    put (λ part. (part.0 ≡ Layer) × Declares (table_part part) place l) parts one.0 one.1 (is_layer one.0.0 l is one.2.4, one.2)
+    let one = pick (λ part. DeclaresAt (table_part part) place l) parts (h.0 place l further e) in
+    put (λ part. (part.0 ≡ Layer) × DeclaresAt (table_part part) place l) parts one.0 one.1 (is_layer one.0.0 l is one.2.4, one.2)
 
 -- ---- documents
 mutual
@@ -125,7 +125,7 @@ mutual
   )
 
 pub layers_admit : LayersAdmit
-layers_admit table document = (admits_meets (Answers table) document, meets_admits (Answers table) document)
+layers_admit table document = (admits_meets (PolicyTreeRefusals table) document, meets_admits (PolicyTreeRefusals table) document)
 
 pub admitted_meet : AdmittedMeet
 admitted_meet parts document all = admitted_meets table_part parts document (λ part is. all_in (PartAdmits document) parts all part is)
@@ -135,23 +135,23 @@ meeting_are_admitted parts document meets known = in_all (PartAdmits document) p
 
 -- a valid table without the labels that it does not declare
 valid_depth : (view : Tree Row) → IsValidTable view → tree_depth view ≤ step_limit
-valid_depth view valid = depth_rows (IsKept Refuses IsRow) step_limit view valid.form (λ path row e. valid.paths path row e)
+valid_depth view valid = depth_rows (IsRowKept RefusesAsked IsRow) step_limit view valid.form (λ path row e. valid.paths path row e)
 
-valid_good : (view : Tree Row) → IsValidTable view → (tree : Tree Row) → Some view ≡ Some tree → IsTable Refuses IsRow tree × IsSoundTree tree
+valid_good : (view : Tree Row) → IsValidTable view → (tree : Tree Row) → Some view ≡ Some tree → IsTable RefusesAsked IsRow tree × IsSoundTree tree
 valid_good view valid tree e =
     let same : view ≡ tree = cc in
-    subst (λ t. IsTable Refuses IsRow t × IsSoundTree t) same (valid.form, (valid_is_root view valid (valid_depth view valid)).0)
+    subst (λ t. IsTable RefusesAsked IsRow t × IsSoundTree t) same (valid.form, (valid_is_root view valid (valid_depth view valid)).0)
 
 pub some_admitted : SomeAreAdmitted
 some_admitted parts view valid answers = (
   λ h.
       let r : Refusals = TablesRefuse parts in
-      let meets = (same (Answers view) r answers h.0).0 h.2 in
-      let found : (path : Path) (question : Question) → r path question ↔ Answers view path question = λ path question. ((answers path question).1, (answers path question).0) in
+      let meets = (same (PolicyTreeRefusals view) r answers h.0).0 h.2 in
+      let found : (path : Path) (question : Question) → r path question ↔ PolicyTreeRefusals view path question = λ path question. ((answers path question).1, (answers path question).0) in
       let d : Document = pruned (Some view) h.0 in (
         d,
         pruned_is (Some view) h.0 h.1,
         meeting_are_admitted parts d (pruned_meets r (Some view) h.0 found meets) (pruned_declared r (Some view) h.0 found (valid_good view valid)),
       ),
-  λ h. (h.0, h.1, (same (Answers view) (TablesRefuse parts) answers h.0).1 (admitted_meet parts h.0 h.2)),
+  λ h. (h.0, h.1, (same (PolicyTreeRefusals view) (TablesRefuse parts) answers h.0).1 (admitted_meet parts h.0 h.2)),
 )

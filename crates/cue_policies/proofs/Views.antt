@@ -4,7 +4,7 @@ use Rattle.cue_lattice.specs.OneOf.{OneOf}
 use Rattle.cue_lattice.specs.Path.{label, index, Path}
 use Rattle.cue_lattice.specs.Question.{Question, Refusals}
 use Rattle.cue_policies.specs.Patterns.{IsPatternOf}
-use Rattle.cue_policies.specs.View.{Part, IsAlong, EndsInPattern, PartRefuses, Declares, ViewRefuses}
+use Rattle.cue_policies.specs.View.{ViewedPart, IsAlong, EndsInPattern, PartRefuses, DeclaresAt, ViewRefuses}
 use Rattle.cue_policies.specs.Inner.Below.{HasPatternOf}
 use Rattle.cue_policies.specs.declared.kind.LayerKind.{LayerKind}
 use Rattle.cue_policies.specs.declared.kind.LayerKind.TheVariants.{Layer, Policy}
@@ -25,27 +25,27 @@ module _ {X : Type 0} where
 
 -- what one of the one parts refuses and declares one of the others does
 pub view_as :
-    {X Y : Type 0} (part : X → Part) (members : List X) (other : Y → Part) (others : List Y)
+    {X Y : Type 0} (part : X → ViewedPart) (members : List X) (other : Y → ViewedPart) (others : List Y)
     → ((path : Path) (question : Question) → OneOf (λ x. PartRefuses (part x) path question) members → OneOf (λ y. PartRefuses (other y) path question) others)
-    → ((place : Path) (l : List ℕ) → OneOf (λ x. Declares (part x) place l) members → OneOf (λ y. Declares (other y) place l) others)
+    → ((place : Path) (l : List ℕ) → OneOf (λ x. DeclaresAt (part x) place l) members → OneOf (λ y. DeclaresAt (other y) place l) others)
     → (path : Path) (question : Question) → ViewRefuses part members path question → ViewRefuses other others path question
 view_as part members other others refused declared path question h = (λ place l further e. declared place l (h.0 place l further e), refused path question h.1)
 
 -- more parts refuse more; so their order makes no difference, nor how often each comes
 pub more_refuse_more :
-    {X : Type 0} (part : X → Part) (some all : List X) → ((x : X) → IsIn x some → IsIn x all)
+    {X : Type 0} (part : X → ViewedPart) (some all : List X) → ((x : X) → IsIn x some → IsIn x all)
     → (path : Path) (question : Question) → ViewRefuses part some path question → ViewRefuses part all path question
 more_refuse_more part some all among = view_as part some part all
     (λ path question h. let one = pick (λ x. PartRefuses (part x) path question) some h in put (λ x. PartRefuses (part x) path question) all one.0 (among one.0 one.1) one.2)
-    (λ place l h. let one = pick (λ x. Declares (part x) place l) some h in put (λ x. Declares (part x) place l) all one.0 (among one.0 one.1) one.2)
+    (λ place l h. let one = pick (λ x. DeclaresAt (part x) place l) some h in put (λ x. DeclaresAt (part x) place l) all one.0 (among one.0 one.1) one.2)
 
 -- ---- the layers as one part, and the policies as one
-module _ {X : Type 0} (part : X → Part) (members : List X) (unified : LayerKind → Refusals) where
+module _ {X : Type 0} (part : X → ViewedPart) (members : List X) (unified : LayerKind → Refusals) where
   abbrev pub AreUnified : Type 0
   AreUnified = (kind : LayerKind) (path : Path) (question : Question)
       → unified kind path question ↔ OneOf (λ x. ((part x).kind ≡ kind) × (part x).refuses path question) members
 
-  abbrev pub whole : LayerKind → Part
+  abbrev pub whole : LayerKind → ViewedPart
   whole kind = record { kind = kind; refuses = unified kind }
 
   kinds : List LayerKind
@@ -69,11 +69,11 @@ module _ {X : Type 0} (part : X → Part) (members : List X) (unified : LayerKin
         λ g. h.3 (subst (λ k. EndsInPattern k h.0) one.2.0 g.0, g.1),
       )
 
-  declared_of_whole : AreUnified → (kind : LayerKind) (place : Path) (l : List ℕ) → Declares (whole kind) place l → OneOf (λ x. Declares (part x) place l) members
+  declared_of_whole : AreUnified → (kind : LayerKind) (place : Path) (l : List ℕ) → DeclaresAt (whole kind) place l → OneOf (λ x. DeclaresAt (part x) place l) members
   declared_of_whole same kind place l h =
       let P : X → Type 0 = λ x. ((part x).kind ≡ kind) × (part x).refuses (h.0 ++ label l ∷ h.1) h.2 in
       let one = pick P members ((same kind (h.0 ++ label l ∷ h.1) h.2).0 h.5) in
-      put (λ x. Declares (part x) place l) members one.0 one.1 (
+      put (λ x. DeclaresAt (part x) place l) members one.0 one.1 (
         h.0,
         h.1,
         h.2,
@@ -92,15 +92,15 @@ module _ {X : Type 0} (part : X → Part) (members : List X) (unified : LayerKin
   view_of_wholes same path question = (
     view_as whole (Layer ∷ Policy ∷ []) part members
         (λ path question h. from_kind (λ kind. PartRefuses (whole kind) path question) (λ kind p. refused_of_whole same kind path question p) h)
-        (λ place l h. from_kind (λ kind. Declares (whole kind) place l) (λ kind p. declared_of_whole same kind place l p) h)
+        (λ place l h. from_kind (λ kind. DeclaresAt (whole kind) place l) (λ kind p. declared_of_whole same kind place l p) h)
         path question,
     view_as part members whole (Layer ∷ Policy ∷ [])
         (λ path question h.
         let one = pick (λ x. PartRefuses (part x) path question) members h in
         of_kind (λ kind. PartRefuses (whole kind) path question) (part one.0).kind (refuses_as (part one.0) (whole (part one.0).kind) refl (in_whole same one.0 one.1) path question one.2))
         (λ place l h.
-        let one = pick (λ x. Declares (part x) place l) members h in
-        of_kind (λ kind. Declares (whole kind) place l) (part one.0).kind (declares_as (part one.0) (whole (part one.0).kind) refl (in_whole same one.0 one.1) place l one.2))
+        let one = pick (λ x. DeclaresAt (part x) place l) members h in
+        of_kind (λ kind. DeclaresAt (whole kind) place l) (part one.0).kind (declares_as (part one.0) (whole (part one.0).kind) refl (in_whole same one.0 one.1) place l one.2))
         path question,
   )
 
@@ -144,10 +144,10 @@ plain_front kind (label k ∷ place) l further plain =
 plain_front kind (index n ∷ place) l further plain = plain_front kind place l further plain
 
 -- nothing is refused at a path with a pattern
-abbrev pub IsPlainPart : Part → Type 0
+abbrev pub IsPlainPart : ViewedPart → Type 0
 IsPlainPart part = (path : Path) (question : Question) → part.refuses path question → ¬ HasPatternOf part.kind path
 
-pub plain_refuses : (part : Part) → IsPlainPart part → (path : Path) (question : Question) → PartRefuses part path question ↔ part.refuses path question
+pub plain_refuses : (part : ViewedPart) → IsPlainPart part → (path : Path) (question : Question) → PartRefuses part path question ↔ part.refuses path question
 plain_refuses part plain path question = (
   λ h. subst (λ p. part.refuses p question) (along_plain part.kind h.0 path (plain h.0 question h.2) h.1) h.2,
   λ r. let free = plain path question r in (path, plain_along part.kind path free, r, λ h. plain_ends part.kind path free h.0),
@@ -155,8 +155,8 @@ plain_refuses part plain path question = (
 
 -- what a part without patterns refuses it declares
 pub plain_declares :
-    (part : Part) → IsPlainPart part → (path : Path) (question : Question) → part.refuses path question
-    → (place : Path) (l : List ℕ) (further : Path) → path ≡ place ++ label l ∷ further → Declares part place l
+    (part : ViewedPart) → IsPlainPart part → (path : Path) (question : Question) → part.refuses path question
+    → (place : Path) (l : List ℕ) (further : Path) → path ≡ place ++ label l ∷ further → DeclaresAt part place l
 plain_declares part plain path question r place l further e =
     let here : part.refuses (place ++ label l ∷ further) question = subst (λ p. part.refuses p question) e r in
     let front = plain_front part.kind place l further (plain (place ++ label l ∷ further) question here) in
@@ -164,13 +164,13 @@ plain_declares part plain path question r place l further e =
 
 -- the view of parts without patterns is their unification
 pub plain_view :
-    {X : Type 0} (part : X → Part) (members : List X) → ((x : X) → IsIn x members → IsPlainPart (part x))
+    {X : Type 0} (part : X → ViewedPart) (members : List X) → ((x : X) → IsIn x members → IsPlainPart (part x))
     → (path : Path) (question : Question) → ViewRefuses part members path question ↔ OneOf (λ x. (part x).refuses path question) members
 plain_view part members plain path question = (
   λ h. let one = pick (λ x. PartRefuses (part x) path question) members h.1 in
       put (λ x. (part x).refuses path question) members one.0 one.1 ((plain_refuses (part one.0) (plain one.0 one.1) path question).0 one.2),
   λ h. let one = pick (λ x. (part x).refuses path question) members h in (
-    λ place l further e. put (λ x. Declares (part x) place l) members one.0 one.1 (plain_declares (part one.0) (plain one.0 one.1) path question one.2 place l further e),
+    λ place l further e. put (λ x. DeclaresAt (part x) place l) members one.0 one.1 (plain_declares (part one.0) (plain one.0 one.1) path question one.2 place l further e),
     put (λ x. PartRefuses (part x) path question) members one.0 one.1 ((plain_refuses (part one.0) (plain one.0 one.1) path question).1 one.2),
   ),
 )
@@ -181,5 +181,5 @@ no_patterns [] h = h
 no_patterns (label l ∷ path) h = ⊎_elim (λ p. p) (no_patterns path) h
 no_patterns (index n ∷ path) h = no_patterns path h
 
-pub layers_are_plain : (part : Part) → part.kind ≡ Layer → IsPlainPart part
+pub layers_are_plain : (part : ViewedPart) → part.kind ≡ Layer → IsPlainPart part
 layers_are_plain part e path question r h = no_patterns path (subst (λ kind. HasPatternOf kind path) e h)

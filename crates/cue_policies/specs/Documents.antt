@@ -1,7 +1,7 @@
 -- Which documents a layer or a policy admits. It goes by cases on the document.
 use Rattle.std.specs.Prelude.{ℕ, suc, List, [], ◌∷◌}
 use Rattle.cue_lattice.specs.Document.{Document, scalar, list, map, Items, no_items, item, Members}
-use Rattle.cue_lattice.specs.Document.{no_members, member, length_of, Has}
+use Rattle.cue_lattice.specs.Document.{no_members, member, length_of, HasMember}
 use Rattle.cue_lattice.specs.Meets.{at_label, at_index}
 use Rattle.cue_lattice.specs.Path.{label, Path}
 use Rattle.cue_lattice.specs.Question as questions
@@ -23,7 +23,7 @@ abbrev mutual
   Admits kind refused (map members) =
       (¬ refused [] struct)
       × ((l : List ℕ) → ¬ IsPatternOf kind l → refused (label l ∷ []) (level_at_most 0)
-      → Has l members)
+      → HasMember l members)
       × MembersAdmitted kind refused members
 
   -- what is at each index is admitted there

@@ -12,8 +12,8 @@ abbrev pub IsPattern : List ℕ → Type 0
 IsPattern label = (stem : List ℕ) × (label ≡ stem ++ star ∷ [])
 
 -- the label begins with the stem of the pattern
-abbrev pub Fits : List ℕ → List ℕ → Type 0
-Fits pattern label =
+abbrev pub MatchesPattern : List ℕ → List ℕ → Type 0
+MatchesPattern pattern label =
     (stem : List ℕ) × (more : List ℕ) × (pattern ≡ stem ++ star ∷ []) × (label ≡ stem ++ more)
 
 -- Policies alone have patterns: in a layer proper a label that ends in a star is one as any other.
@@ -22,12 +22,12 @@ IsPatternOf Layer label = ⊥
 IsPatternOf Policy label = IsPattern label
 
 -- what is written at the one label concerns the other by its name
-abbrev pub IsNamed : LayerKind → List ℕ → List ℕ → Type 0
-IsNamed kind own label = (own ≡ label) × ¬ IsPatternOf kind own
+abbrev pub IsNamedLabel : LayerKind → List ℕ → List ℕ → Type 0
+IsNamedLabel kind own label = (own ≡ label) × ¬ IsPatternOf kind own
 
 -- or by a pattern that fits
-abbrev pub IsBound : LayerKind → List ℕ → List ℕ → Type 0
-IsBound kind own label = IsPatternOf kind own × Fits own label
+abbrev pub IsPatternBound : LayerKind → List ℕ → List ℕ → Type 0
+IsPatternBound kind own label = IsPatternOf kind own × MatchesPattern own label
 
 abbrev pub Concerns : LayerKind → List ℕ → List ℕ → Type 0
-Concerns kind own label = IsNamed kind own label ⊎ IsBound kind own label
+Concerns kind own label = IsNamedLabel kind own label ⊎ IsPatternBound kind own label

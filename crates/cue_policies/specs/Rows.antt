@@ -1,7 +1,7 @@
 -- How many rows a table has, and which views have too many.
 use Rattle.std.specs.Prelude.{ℕ, ◌<◌, length}
 use Rattle.cue_lattice.specs.Question.{Refusals, SameAnswers}
-use Rattle.cue_row.specs.Row.{Refuses, IsRow, RowRefuses}
+use Rattle.cue_row.specs.Row.{RefusesAsked, IsRow, RowRefusesQuestion}
 use Rattle.cue_row.specs.declared.parts.RowParts.{RowParts as Row}
 use Rattle.cue_table.specs.Form.{IsTable}
 use Rattle.cue_table.specs.Refuses.{TableRefuses}
@@ -17,7 +17,7 @@ row_count tree = length (rows_of tree)
 -- The table that refuses just this has more rows than the limit.
 abbrev pub HasMoreRows : ℕ → Refusals → Type 0
 HasMoreRows limit refuses =
-    (table : Tree Row) → IsTable Refuses IsRow table → SameAnswers (TableRefuses RowRefuses table) refuses
+    (table : Tree Row) → IsTable RefusesAsked IsRow table → SameAnswers (TableRefuses RowRefusesQuestion table) refuses
     → limit < row_count table
 
 -- why there is no view: memory ran out, or the view is too large, and this holds then

@@ -1,17 +1,17 @@
 -- The view of tables.
 use Rattle.std.specs.Prelude.{List, [], ◌∷◌}
 use Rattle.cue_lattice.specs.Question.{Refusals}
-use Rattle.cue_row.specs.Row.{RowRefuses}
+use Rattle.cue_row.specs.Row.{RowRefusesQuestion}
 use Rattle.cue_row.specs.declared.parts.RowParts.{RowParts as Row}
 use Rattle.cue_table.specs.Refuses.{TableRefuses}
 use Rattle.cue_table.specs.Tree.{Tree}
-use Rattle.cue_policies.specs.View.{Part, ViewRefuses}
+use Rattle.cue_policies.specs.View.{ViewedPart, ViewRefuses}
 use Rattle.cue_policies.specs.declared.kind.LayerKind.{LayerKind}
 use Rattle.cue_policies.specs.declared.kind.LayerKind.TheVariants.{Layer, Policy}
 
 -- a layer or a policy with this table
-abbrev pub table_part : LayerKind × Tree Row → Part
-table_part part = record { kind = part.0; refuses = TableRefuses RowRefuses part.1 }
+abbrev pub table_part : LayerKind × Tree Row → ViewedPart
+table_part part = record { kind = part.0; refuses = TableRefuses RowRefusesQuestion part.1 }
 
 -- what the view of such layers and policies refuses
 abbrev pub TablesRefuse : List (LayerKind × Tree Row) → Refusals

@@ -8,7 +8,7 @@ use Rattle.cue_policies.specs.Patterns.{IsPatternOf, Concerns}
 use Rattle.cue_policies.specs.declared.kind.LayerKind.{LayerKind}
 
 -- a layer or a policy, by its kind and what it refuses
-pub record Part : Type 1 where
+pub record ViewedPart : Type 1 where
   pub kind : LayerKind
   pub refuses : Refusals
 
@@ -32,30 +32,30 @@ EndsInPattern kind (step ∷ []) = IsPatternStep kind step
 EndsInPattern kind (step ∷ next ∷ path) = EndsInPattern kind (next ∷ path)
 
 -- the question asks for a level
-abbrev pub IsLevel : Question → Type 0
-IsLevel (level_at_most k) = Unit {0}
-IsLevel question = ⊥
+abbrev pub IsLevelInView : Question → Type 0
+IsLevelInView (level_at_most k) = Unit {0}
+IsLevelInView question = ⊥
 
 -- The part refuses the question at a path that it wrote and that concerns this one. A pattern
 -- itself asks for no field: its own level plays no part.
-abbrev pub PartRefuses : Part → Path → Question → Type 0
+abbrev pub PartRefuses : ViewedPart → Path → Question → Type 0
 PartRefuses part path question =
     (written : Path) × IsAlong part.kind written path × part.refuses written question
-    × ¬ (EndsInPattern part.kind written × IsLevel question)
+    × ¬ (EndsInPattern part.kind written × IsLevelInView question)
 
 -- the part has a branch at this label, which is no pattern, at a path that concerns the place
-abbrev pub Declares : Part → Path → List ℕ → Type 0
-Declares part place l =
+abbrev pub DeclaresAt : ViewedPart → Path → List ℕ → Type 0
+DeclaresAt part place l =
     (written : Path) × (below : Path) × (question : Question) × IsAlong part.kind written place
     × (¬ IsPatternOf part.kind l) × part.refuses (written ++ label l ∷ below) question
 
 -- each label of the path is one that some part declares at its place
-abbrev pub IsDeclared : {X : Type 0} → (X → Part) → List X → Path → Type 0
-IsDeclared part members path =
+abbrev pub IsDeclaredInView : {X : Type 0} → (X → ViewedPart) → List X → Path → Type 0
+IsDeclaredInView part members path =
     (place : Path) (l : List ℕ) (further : Path) → path ≡ place ++ label l ∷ further
-    → OneOf (λ member. Declares (part member) place l) members
+    → OneOf (λ member. DeclaresAt (part member) place l) members
 
 -- The view refuses what one of its parts refuses, at the paths that are declared.
-abbrev pub ViewRefuses : {X : Type 0} → (X → Part) → List X → Refusals
+abbrev pub ViewRefuses : {X : Type 0} → (X → ViewedPart) → List X → Refusals
 ViewRefuses part members path question =
-    IsDeclared part members path × OneOf (λ member. PartRefuses (part member) path question) members
+    IsDeclaredInView part members path × OneOf (λ member. PartRefuses (part member) path question) members

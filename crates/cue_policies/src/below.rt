@@ -1,10 +1,10 @@
 //! The parts one step below a place of the view.
 ghost use Rattle.std.specs.Prelude.{◌↔◌, ◌⊎◌, IfOk, OnOk};
 ghost use Rattle.cue_lattice.specs.OneOf.{OneOf};
-ghost use Rattle.cue_policies.specs.Patterns.{Fits, IsPatternOf};
+ghost use Rattle.cue_policies.specs.Patterns.{MatchesPattern, IsPatternOf};
 ghost use Rattle.cue_policies.specs.declared.part.Role.TheVariants as roles;
 ghost use Rattle.cue_policies.specs.declared.part.ViewPart.{ViewPart as Part};
-ghost use Rattle.cue_policies.specs.Inner.Parts.{HasAt, IsBelow, IsIn, kind_of, role_below};
+ghost use Rattle.cue_policies.specs.Inner.Parts.{HasPartAt, IsBelow, IsIn, kind_of, role_below};
 
 use crate::labels::fits;
 use crate::part::{Role, ViewPart};
@@ -57,12 +57,12 @@ fn add_named<'a>(
 ) -> Result<(), Memory>
     ensures { OnOk result ((next : Part) → IsIn next found.new.items
         ↔ (IsIn next found.old.items ⊎ ((¬ IsPatternOf (kind_of part.now.role) label.now)
-        × HasAt part.now (role_below part.now.role) label.now next))) }
+        × HasPartAt part.now (role_below part.now.role) label.now next))) }
 {
     if part.role.has_pattern(label.as_str()) {
         return Ok(());
     }
-    add_at(alloc, found, part, part.role.below(), label)
+    add_at(alloc, found, part, part.role.role_below(), label)
 }
 
 /// Puts what a part has at a pattern behind others, where it fits the label.
@@ -75,7 +75,7 @@ fn add_bound<'a>(
 ) -> Result<(), Memory>
     ensures { OnOk result ((next : Part) → IsIn next found.new.items
         ↔ (IsIn next found.old.items ⊎ (IsPatternOf (kind_of part.now.role) pattern.now
-        × Fits pattern.now label.now × HasAt part.now roles.Pattern pattern.now next))) }
+        × MatchesPattern pattern.now label.now × HasPartAt part.now roles.Pattern pattern.now next))) }
 {
     if !part.role.has_pattern(pattern.as_str()) {
         return Ok(());
@@ -95,7 +95,7 @@ fn add_at<'a>(
     label: &Text,
 ) -> Result<(), Memory>
     ensures { OnOk result ((next : Part) → IsIn next found.new.items
-        ↔ (IsIn next found.old.items ⊎ HasAt part.now role label.now next)) }
+        ↔ (IsIn next found.old.items ⊎ HasPartAt part.now role label.now next)) }
 {
     let step = Step::Label(label.copy(alloc)?);
     match part.branch.find(&step) {

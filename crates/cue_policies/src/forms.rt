@@ -1,6 +1,6 @@
 //! Which policies are well formed.
 ghost use Rattle.std.specs.Prelude.{◌≡◌, ◌↔◌, IsTrue};
-ghost use Rattle.cue_row.specs.Row.{RowRefuses};
+ghost use Rattle.cue_row.specs.Row.{RowRefusesQuestion};
 ghost use Rattle.cue_table.specs.Refuses.{TableRefuses};
 ghost use Rattle.cue_table.specs.StepsOfCode.{step_at};
 ghost use Rattle.cue_table.specs.Tree.{row_of};
@@ -15,7 +15,7 @@ use cue_table::{Branch, StepRef, Table};
 /// Whether a policy is well formed: no pattern is below an element or a rest of a list, and no set
 /// of labels has a pattern. This takes no memory.
 pub fn is_well_formed(table: &Table<Row>) -> bool
-    ensures { IsTrue result ↔ IsWellFormed (TableRefuses RowRefuses table.now) }
+    ensures { IsTrue result ↔ IsWellFormed (TableRefuses RowRefusesQuestion table.now) }
 {
     let root = table.root();
     is_form(&root, false)
@@ -23,8 +23,8 @@ pub fn is_well_formed(table: &Table<Row>) -> bool
 
 /// Whether a well-formed policy has no pattern at all. This takes no memory.
 pub fn is_plain(policy: &Table<Row>) -> bool
-    requires { IsWellFormed (TableRefuses RowRefuses policy.now) }
-    ensures { IsTrue result ↔ IsPlain (TableRefuses RowRefuses policy.now) }
+    requires { IsWellFormed (TableRefuses RowRefusesQuestion policy.now) }
+    ensures { IsTrue result ↔ IsPlain (TableRefuses RowRefusesQuestion policy.now) }
 {
     let root = policy.root();
     is_form(&root, true)

@@ -1,9 +1,9 @@
 //! Laws of policies and views, each on a call that carries it and does nothing.
 ghost use Rattle.std.specs.Prelude.{List};
 ghost use Rattle.std.specs.List.{AllByRecursion};
-ghost use Rattle.cue_row.specs.Row.{Refuses, RowRefuses};
+ghost use Rattle.cue_row.specs.Row.{RefusesAsked, RowRefusesQuestion};
 ghost use Rattle.cue_row.specs.declared.parts.RowParts.{RowParts as RowValue};
-ghost use Rattle.cue_table.specs.Many.{IsUnified};
+ghost use Rattle.cue_table.specs.Many.{AreUnified};
 ghost use Rattle.cue_table.specs.Meet.{IsMet};
 ghost use Rattle.cue_table.specs.Refuses.{TableRefuses};
 ghost use Rattle.cue_table.specs.Tree.{Tree, empty};
@@ -14,14 +14,14 @@ ghost use Rattle.cue_policies.specs.WellFormed.{IsWellFormed};
 
 /// Well-formed policies are unified to a well-formed policy, and the table without rows is one.
 pub fn policies_stay_well_formed()
-    ensures empty { IsWellFormed (TableRefuses RowRefuses (empty {R = RowValue})) }
-    ensures met { (a b met : Tree RowValue) → IsMet Refuses a b met
-        → IsWellFormed (TableRefuses RowRefuses a) → IsWellFormed (TableRefuses RowRefuses b)
-        → IsWellFormed (TableRefuses RowRefuses met) }
+    ensures empty { IsWellFormed (TableRefuses RowRefusesQuestion (empty {R = RowValue})) }
+    ensures met { (a b met : Tree RowValue) → IsMet RefusesAsked a b met
+        → IsWellFormed (TableRefuses RowRefusesQuestion a) → IsWellFormed (TableRefuses RowRefusesQuestion b)
+        → IsWellFormed (TableRefuses RowRefusesQuestion met) }
     ensures unified { (tables : List (Tree RowValue)) (met : Tree RowValue)
-        → IsUnified Refuses tables met
-        → AllByRecursion (λ table. IsWellFormed (TableRefuses RowRefuses table)) tables
-        → IsWellFormed (TableRefuses RowRefuses met) }
+        → AreUnified RefusesAsked tables met
+        → AllByRecursion (λ table. IsWellFormed (TableRefuses RowRefusesQuestion table)) tables
+        → IsWellFormed (TableRefuses RowRefusesQuestion met) }
 {}
 
 /// More layers and policies refuse more. So neither their order nor how often each comes makes a

@@ -27,7 +27,7 @@ pub(crate) struct ViewPart<'a> {
 
 impl Role {
     /// The role of what is at a plain label, or an element.
-    pub fn below(self) -> Role
+    pub fn role_below(self) -> Role
         ensures { result ≡ role_below self }
     {
         match self {

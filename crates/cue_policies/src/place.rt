@@ -3,13 +3,13 @@ ghost use Rattle.std.specs.Prelude.{◌≡◌, ◌↔◌, ◌⊎◌, ◌≤◌, 
 ghost use Rattle.cue_lattice.specs.Limits.{step_limit};
 ghost use Rattle.cue_lattice.specs.Path.{Path};
 ghost use Rattle.cue_lattice.specs.Question.{Question};
-ghost use Rattle.cue_row.specs.Row.{IsRow, Refuses, RowRefuses};
+ghost use Rattle.cue_row.specs.Row.{IsRow, RefusesAsked, RowRefusesQuestion};
 ghost use Rattle.cue_table.specs.Depth.{tree_depth};
 ghost use Rattle.cue_table.specs.Form.{IsTable};
 ghost use Rattle.cue_table.specs.Refuses.{TableRefuses};
 ghost use Rattle.cue_policies.specs.Inner.Parts.{AreLimited, ArePlaces, AreSoundParts, IsElements};
 ghost use Rattle.cue_policies.specs.Inner.Parts.{IsFit, IsLimited, IsPlace, IsSoundPart, RestRefuses};
-ghost use Rattle.cue_policies.specs.Inner.Parts.{held, held_row, most_depth};
+ghost use Rattle.cue_policies.specs.Inner.Parts.{refused_in_role, held_row, most_depth};
 
 use crate::part::{Role, ViewPart};
 use cue_lattice::{Memory, Narrow};
@@ -21,7 +21,7 @@ use std::alloc::Global;
 pub(crate) fn places_of(alloc: Global, parts: &[ViewPart<'_>]) -> Result<Table<Row>, Memory>
     requires sound { AreSoundParts parts.now }
     requires depth { most_depth parts.now ≤ step_limit }
-    ensures form { IfOk result (IsTable Refuses IsRow) }
+    ensures form { IfOk result (IsTable RefusesAsked IsRow) }
     ensures refused { IfOk result (ArePlaces parts.now) }
     ensures fit { IfOk result (λ table. (top : Bool) → AreLimited top parts.now → IsFit top table) }
 {
@@ -36,7 +36,7 @@ pub(crate) fn places_of(alloc: Global, parts: &[ViewPart<'_>]) -> Result<Table<R
 fn place_of(alloc: Global, part: &ViewPart<'_>) -> Result<Table<Row>, Memory>
     requires sound { IsSoundPart part.now }
     requires depth { tree_depth part.now.branch ≤ step_limit }
-    ensures form { IfOk result (IsTable Refuses IsRow) }
+    ensures form { IfOk result (IsTable RefusesAsked IsRow) }
     ensures refused { IfOk result (IsPlace part.now) }
     ensures fit { IfOk result (λ table. (top : Bool) → IsLimited top part.now.branch
         → IsFit top table) }
@@ -46,11 +46,11 @@ fn place_of(alloc: Global, part: &ViewPart<'_>) -> Result<Table<Row>, Memory>
 
 /// A table, and what a part refuses at its place itself.
 fn with_row(alloc: Global, mut table: Table<Row>, part: &ViewPart<'_>) -> Result<Table<Row>, Memory>
-    requires { IsTable Refuses IsRow table }
-    ensures form { IfOk result (IsTable Refuses IsRow) }
+    requires { IsTable RefusesAsked IsRow table }
+    ensures form { IfOk result (IsTable RefusesAsked IsRow) }
     ensures refused { IfOk result (λ whole. (path : Path) (question : Question) →
-        TableRefuses RowRefuses whole path question ↔ (TableRefuses RowRefuses table path question
-        ⊎ ((path ≡ []) × held part.now.role part.now.branch [] question))) }
+        TableRefuses RowRefusesQuestion whole path question ↔ (TableRefuses RowRefusesQuestion table path question
+        ⊎ ((path ≡ []) × refused_in_role part.now.role part.now.branch [] question))) }
 {
     match part.branch.row() {
         None => Ok(table),
@@ -63,7 +63,7 @@ fn with_row(alloc: Global, mut table: Table<Row>, part: &ViewPart<'_>) -> Result
 
 /// A row as a part of this role has it.
 fn row_of(alloc: Global, role: Role, row: &Row) -> Result<Row, Memory>
-    ensures { IfOk result (λ held. held ≡ held_row role row.now) }
+    ensures { IfOk result (λ refused_in_role. refused_in_role ≡ held_row role row.now) }
 {
     let row = row.copy(alloc)?;
     match role {
@@ -75,7 +75,7 @@ fn row_of(alloc: Global, role: Role, row: &Row) -> Result<Row, Memory>
 /// The table of the elements of a place alone.
 fn elements_of(alloc: Global, branch: &Branch<Row>) -> Result<Table<Row>, Memory>
     requires { tree_depth branch.now ≤ step_limit }
-    ensures form { IfOk result (IsTable Refuses IsRow) }
+    ensures form { IfOk result (IsTable RefusesAsked IsRow) }
     ensures refused { IfOk result (IsElements branch.now) }
 {
     let mut own = Vec::new(alloc);
@@ -91,11 +91,11 @@ fn with_rest(
     mut table: Table<Row>,
     branch: &Branch<Row>,
 ) -> Result<Table<Row>, Memory>
-    requires form { IsTable Refuses IsRow table }
+    requires form { IsTable RefusesAsked IsRow table }
     requires depth { tree_depth branch.now ≤ step_limit }
-    ensures form { IfOk result (IsTable Refuses IsRow) }
+    ensures form { IfOk result (IsTable RefusesAsked IsRow) }
     ensures refused { IfOk result (λ whole. (path : Path) (question : Question) →
-        TableRefuses RowRefuses whole path question ↔ (TableRefuses RowRefuses table path question
+        TableRefuses RowRefusesQuestion whole path question ↔ (TableRefuses RowRefusesQuestion table path question
         ⊎ RestRefuses branch.now path question)) }
 {
     match branch.rest() {

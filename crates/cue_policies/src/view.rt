@@ -2,7 +2,7 @@
 ghost use Rattle.std.specs.Prelude.{◌≡◌, ◌<◌, ◌≤◌, ◌∷◌, [], Bool, IfErr, IfOk, IfSome, OnOk};
 ghost use Rattle.cue_lattice.specs.Limits.{step_limit};
 ghost use Rattle.cue_lattice.specs.Question.{SameAnswers};
-ghost use Rattle.cue_row.specs.Row.{IsRow, Refuses, RowRefuses};
+ghost use Rattle.cue_row.specs.Row.{IsRow, RefusesAsked, RowRefusesQuestion};
 ghost use Rattle.cue_table.specs.Depth.{tree_depth};
 ghost use Rattle.cue_table.specs.Form.{IsTable};
 ghost use Rattle.cue_table.specs.Refuses.{TableRefuses};
@@ -47,13 +47,13 @@ pub fn whole_view(
 ) -> Result<Table<Row>, ViewError>
     requires layers { IsValidTable layers.now }
     requires policies { IsValidTable policies.now }
-    requires formed { IsWellFormed (TableRefuses RowRefuses policies.now) }
+    requires formed { IsWellFormed (TableRefuses RowRefusesQuestion policies.now) }
     ensures valid { IfOk result IsValidTable }
     ensures refused { IfOk result (λ view.
-        SameAnswers (TableRefuses RowRefuses view) (ViewOfTwo layers.now policies.now)) }
+        SameAnswers (TableRefuses RowRefusesQuestion view) (ViewOfTwo layers.now policies.now)) }
     ensures few { IfOk result (λ view.
-        ¬ IsPlain (TableRefuses RowRefuses policies.now) → row_count view ≤ limit) }
-    ensures large { IfErr result (IsViewError ((¬ IsPlain (TableRefuses RowRefuses policies.now))
+        ¬ IsPlain (TableRefuses RowRefusesQuestion policies.now) → row_count view ≤ limit) }
+    ensures large { IfErr result (IsViewError ((¬ IsPlain (TableRefuses RowRefusesQuestion policies.now))
         × HasMoreRows limit (ViewOfTwo layers.now policies.now))) }
 {
     if is_plain(policies) {
@@ -91,9 +91,9 @@ fn root_parts<'a>(
 fn view_of(alloc: Global, parts: &[ViewPart<'_>], most: u64) -> Result<CountedView, ViewError>
     requires sound { AreSoundParts parts.now }
     requires depth { most_depth parts.now ≤ step_limit }
-    ensures form { IfOk result (λ view. IsTable Refuses IsRow view.table) }
+    ensures form { IfOk result (λ view. IsTable RefusesAsked IsRow view.table) }
     ensures refused { IfOk result (λ view.
-        SameAnswers (TableRefuses RowRefuses view.table) (PartsRefuse parts.now)) }
+        SameAnswers (TableRefuses RowRefusesQuestion view.table) (PartsRefuse parts.now)) }
     ensures fit { IfOk result (λ view.
         (top : Bool) → AreLimited top parts.now → IsFit top view.table) }
     ensures rows { IfOk result (λ view. (view.rows ≤ row_count view.table) × (view.rows ≤ most)) }
@@ -112,7 +112,7 @@ fn view_of(alloc: Global, parts: &[ViewPart<'_>], most: u64) -> Result<CountedVi
         rows += field.rows;
         fields.push((Step::Label(label), field.table))?;
     }
-    let table = together(alloc, parts, fields)?;
+    let table = join_parts(alloc, parts, fields)?;
     if rows == 0 {
         return count_rows(table, most);
     }
@@ -122,9 +122,9 @@ fn view_of(alloc: Global, parts: &[ViewPart<'_>], most: u64) -> Result<CountedVi
 /// A table with all its rows, where it has no more than `most`.
 fn count_rows(table: Table<Row>, most: u64) -> Result<CountedView, ViewError>
     ensures table { IfOk result (λ view. view.table ≡ table) }
-    ensures form { IfOk result (λ view. IsTable Refuses IsRow view.table) }
+    ensures form { IfOk result (λ view. IsTable RefusesAsked IsRow view.table) }
     ensures rows { IfOk result (λ view. (view.rows ≡ row_count table) × (view.rows ≤ most)) }
-    ensures large { IfErr result (IsViewError (IsTable Refuses IsRow table
+    ensures large { IfErr result (IsViewError (IsTable RefusesAsked IsRow table
         × (most < row_count table))) }
 {
     match rows_within(&table.root(), most) {
@@ -145,7 +145,7 @@ fn lone_layer<'p, 'a>(parts: &'p [ViewPart<'a>]) -> Option<&'p ViewPart<'a>>
 }
 
 /// The fields of a place together with what its parts refuse elsewhere.
-fn together(
+fn join_parts(
     alloc: Global,
     parts: &[ViewPart<'_>],
     fields: Vec<(Step, Table<Row>)>,
@@ -153,9 +153,9 @@ fn together(
     requires sound { AreSoundParts parts.now }
     requires depth { most_depth parts.now ≤ step_limit }
     requires fields { AreFields parts.now fields.items }
-    ensures form { IfOk result (IsTable Refuses IsRow) }
+    ensures form { IfOk result (IsTable RefusesAsked IsRow) }
     ensures refused { IfOk result (λ view.
-        SameAnswers (TableRefuses RowRefuses view) (PartsRefuse parts.now)) }
+        SameAnswers (TableRefuses RowRefusesQuestion view) (PartsRefuse parts.now)) }
     ensures fit { IfOk result (λ view. (top : Bool) → AreLimited top parts.now → IsFit top view) }
 {
     let mut view = places_of(alloc, parts)?;

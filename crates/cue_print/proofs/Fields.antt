@@ -4,7 +4,7 @@ use Rattle.std.specs.Prelude.{codes}
 use Rattle.std.specs.List.{flat_map}
 use Rattle.cue_lattice.specs.Path.{label, index}
 use Rattle.cue_row.specs.declared.parts.RowParts.{RowParts as Row}
-use Rattle.cue_row.specs.Quoted.{quoted}
+use Rattle.cue_row.specs.Quoted.{quote_text}
 use Rattle.cue_table.specs.Tree.{Tree, Children, none, child, row_of, labels_of}
 use Rattle.cue_print.specs.Expressions.{Fields, no_more, field}
 use Rattle.cue_print.specs.Printed.{has_field, level_at, value_of, fields_below}
@@ -29,7 +29,7 @@ some_field children item items e = sym (ap has_field (fields_are children ∙ ap
 
 -- the text of one field
 abbrev pub declaration : List ℕ → Tree Row → List ℕ
-declaration l tree = quoted l ++ (mark_text (level_at (row_of tree)) ++ value_text (value_of tree))
+declaration l tree = quote_text l ++ (mark_text (level_at (row_of tree)) ++ value_text (value_of tree))
 
 -- the text of the next field, in front of those of the others
 pub first_field :

@@ -12,11 +12,11 @@ use Rattle.cue_sets.specs.Texts.{text_cmp}
 use Rattle.cue_sets.specs.TextLaws.{reverse_cmp, same_from_equal, bytes_eq-itself, bytes_eq-less, bytes_eq-greater}
 use Rattle.cue_row.specs.declared.level.Level.TheVariants.{Optional}
 use Rattle.cue_row.specs.declared.parts.RowParts.{RowParts as Row}
-use Rattle.cue_table.specs.Tree.{Tree, node, Children, none, child, Rest, no_rest, onward, row_of, below, rest_of, if_equal, find, find_with, step_into, rest_tree}
+use Rattle.cue_table.specs.Tree.{Tree, node, Children, none, child, Rest, no_rest, onward, row_of, below, rest_below, if_equal, find, find_with, step_into, rest_at}
 use Rattle.cue_print.specs.Expressions.{Value, top, Fields, field}
-use Rattle.cue_print.specs.Printed.{level_at, declared, inside, value_of, fields_below, element_at, element_below, rest_value}
+use Rattle.cue_print.specs.Printed.{level_at, field_in_front, fields_of_labels, value_of, fields_below, element_at, element_below, rest_value}
 use Rattle.cue_print.specs.Spelled.{value_text, field_texts}
-use Rattle.cue_print.specs.Inner.Writing.{told_text, fields_at, found_text, declared_text}
+use Rattle.cue_print.specs.Inner.Writing.{rest_value_text, fields_at, found_text, declared_text}
 
 -- ---- labels
 -- the field of a label, by the branch that is found at it
@@ -24,23 +24,23 @@ abbrev pub field_for : List ℕ → Option (Tree Row) → Fields → Fields
 field_for l None others = field l Optional top others
 field_for l (Some tree) others = field l (level_at (row_of tree)) (value_of tree) others
 
-declared_found : (children : Children Row) (l : List ℕ) (others : Fields) → declared l (fields_below children) others ≡ field_for l (find (label l) children) others
+declared_found : (children : Children Row) (l : List ℕ) (others : Fields) → field_in_front l (fields_below children) others ≡ field_for l (find (label l) children) others
 unfolding fields_below
 declared_found none l others = refl
 declared_found (child (index n) tree children) l others = declared_found children l others
 declared_found (child (label m) tree children) l others = at (text_cmp l m) refl (declared_found children l others) where
   at :
-      (o : Ordering) → text_cmp l m ≡ o → declared l (fields_below children) others ≡ field_for l (find (label l) children) others
-      → declared l (fields_below (child (label m) tree children)) others ≡ field_for l (if_equal (text_cmp l m) tree (find (label l) children)) others
+      (o : Ordering) → text_cmp l m ≡ o → field_in_front l (fields_below children) others ≡ field_for l (find (label l) children) others
+      → field_in_front l (fields_below (child (label m) tree children)) others ≡ field_for l (if_equal (text_cmp l m) tree (find (label l) children)) others
   at Less h later = rw (bytes_eq-greater m l h, h) later
   at Equal h later = rw (ap (bytes_eq m) (same_from_equal l m h) ∙ bytes_eq-itself m, h) refl
   at Greater h later = rw (bytes_eq-less m l (reverse_cmp l m Greater h), h) later
 
-declared_with : (rest : Rest Row) (children : Children Row) (l : List ℕ) (others : Fields) → declared l (fields_below children) others ≡ field_for l (find_with rest (label l) children) others
+declared_with : (rest : Rest Row) (children : Children Row) (l : List ℕ) (others : Fields) → field_in_front l (fields_below children) others ≡ field_for l (find_with rest (label l) children) others
 declared_with no_rest children l others = declared_found children l others
 declared_with (onward n tree) children l others = declared_found children l others
 
-declared_into : (tree : Tree Row) (l : List ℕ) (others : Fields) → declared l (fields_below (below tree)) others ≡ field_for l (step_into tree (label l)) others
+declared_into : (tree : Tree Row) (l : List ℕ) (others : Fields) → field_in_front l (fields_below (below tree)) others ≡ field_for l (step_into tree (label l)) others
 declared_into (node row children rest) l others = declared_with rest children l others
 
 found_left : (l : List ℕ) (found : Option (Tree Row)) (others : Fields) → field_texts (field_for l found others) ≡ found_text l found ∷ field_texts others
@@ -51,14 +51,14 @@ found_left l (Some tree) others = refl
 -- the text of the first label, in front of those of the others
 pub first_label :
     (tree : Tree Row) (labels others : List (List ℕ)) (l : List ℕ) → labels ≡ l ∷ others
-    → field_texts (inside labels (fields_at tree)) ≡ declared_text l tree ∷ field_texts (inside others (fields_at tree))
+    → field_texts (fields_of_labels labels (fields_at tree)) ≡ declared_text l tree ∷ field_texts (fields_of_labels others (fields_at tree))
 first_label tree labels others l e =
-    ap (λ ls. field_texts (inside ls (fields_at tree))) e
-    ∙ ap field_texts (declared_into tree l (inside others (fields_at tree))) ∙ found_left l (step_into tree (label l)) (inside others (fields_at tree))
+    ap (λ ls. field_texts (fields_of_labels ls (fields_at tree))) e
+    ∙ ap field_texts (declared_into tree l (fields_of_labels others (fields_at tree))) ∙ found_left l (step_into tree (label l)) (fields_of_labels others (fields_at tree))
 
-pub no_label_left : (tree : Tree Row) (labels : List (List ℕ)) → labels ≡ [] → field_texts (inside labels (fields_at tree)) ≡ []
+pub no_label_left : (tree : Tree Row) (labels : List (List ℕ)) → labels ≡ [] → field_texts (fields_of_labels labels (fields_at tree)) ≡ []
 unfolding field_texts
-no_label_left tree labels e = ap (λ ls. field_texts (inside ls (fields_at tree))) e
+no_label_left tree labels e = ap (λ ls. field_texts (fields_of_labels ls (fields_at tree))) e
 
 -- ---- numbers
 -- the element of a number, by the branch that is found at it
@@ -99,11 +99,11 @@ element_with (onward m tree) children n = by (nat_lt n m) where
   by true = element_found children n
   by false = refl
 
-pub element_into : (tree : Tree Row) (n : ℕ) → element_at (rest_of tree) (element_below (below tree)) n ≡ element_for (step_into tree (index n))
+pub element_into : (tree : Tree Row) (n : ℕ) → element_at (rest_below tree) (element_below (below tree)) n ≡ element_for (step_into tree (index n))
 element_into (node row children rest) n = element_with rest children n
 
 -- ---- rests
-pub rest_is_some : (rest : Rest Row) → is_some (rest_tree rest) ≡ is_some (rest_value rest)
+pub rest_is_some : (rest : Rest Row) → is_some (rest_at rest) ≡ is_some (rest_value rest)
 unfolding rest_value
 rest_is_some no_rest = refl
 rest_is_some (onward n tree) = refl
@@ -113,15 +113,15 @@ told_for : Option (Tree Row) → List ℕ
 told_for None = []
 told_for (Some tree) = value_text (value_of tree)
 
-told_found : (rest : Rest Row) → told_text (rest_value rest) ≡ told_for (rest_tree rest)
+told_found : (rest : Rest Row) → rest_value_text (rest_value rest) ≡ told_for (rest_at rest)
 unfolding rest_value told_for
 told_found no_rest = refl
 told_found (onward n tree) = refl
 
-pub no_rest_told : (tree : Tree Row) → None ≡ rest_tree (rest_of tree) → [] ≡ told_text (rest_value (rest_of tree))
+pub no_rest_told : (tree : Tree Row) → None ≡ rest_at (rest_below tree) → [] ≡ rest_value_text (rest_value (rest_below tree))
 unfolding told_for
-no_rest_told tree e = ap told_for e ∙ sym (told_found (rest_of tree))
+no_rest_told tree e = ap told_for e ∙ sym (told_found (rest_below tree))
 
-pub rest_told : (tree rest : Tree Row) → Some rest ≡ rest_tree (rest_of tree) → value_text (value_of rest) ≡ told_text (rest_value (rest_of tree))
+pub rest_told : (tree rest : Tree Row) → Some rest ≡ rest_at (rest_below tree) → value_text (value_of rest) ≡ rest_value_text (rest_value (rest_below tree))
 unfolding told_for
-rest_told tree rest e = ap told_for e ∙ sym (told_found (rest_of tree))
+rest_told tree rest e = ap told_for e ∙ sym (told_found (rest_below tree))

@@ -6,36 +6,36 @@ use Rattle.std.proofs.lemmas.List.{append-nil}
 use Rattle.cue_row.specs.declared.level.Level.{Level}
 use Rattle.cue_row.specs.declared.parts.RowParts.{RowParts as Row}
 use Rattle.cue_row.specs.LabelSets.{allows_label}
-use Rattle.cue_row.specs.Quoted.{quoted}
+use Rattle.cue_row.specs.Quoted.{quote_text}
 use Rattle.cue_table.specs.Tree.{Tree, Children, row_of, labels_of}
 use Rattle.cue_print.specs.Expressions.{Value, top, all, Parts, no_parts, struct, close, list, bottom, Fields, no_more, field, Ending, ends}
-use Rattle.cue_print.specs.Printed.{inside, outside, struct_if_any, struct_part, elements, dots, list_part, has_field, list_left, nothing_value, level_at, value_of, fields_below}
-use Rattle.cue_print.specs.Spelled.{joined, enclosed, mark_text, struct_text, list_text, value_text, part_texts, field_texts, element_texts, ending_texts}
-use Rattle.cue_print.specs.Inner.Writing.{lead, conjoined, opening, beside_text, closing, written_struct, struct_before, is_exact, told_text, ending_text, longest_text, written_list, list_before}
+use Rattle.cue_print.specs.Printed.{fields_of_labels, fields_of_others, struct_if_any, struct_part, elements, dots, list_part, has_field, list_left, nothing_value, level_at, value_of, fields_below}
+use Rattle.cue_print.specs.Spelled.{join_texts, enclose_text, mark_text, struct_text, list_text, value_text, part_texts, field_texts, element_texts, ending_texts}
+use Rattle.cue_print.specs.Inner.Writing.{separator_before, after_conjunction, field_opening, beside_text, fields_closing, written_struct, struct_before, is_exact, rest_value_text, ending_text, longest_text, written_list, list_before}
 use Rattle.cue_print.proofs.Fields.{fields_of, fields_are, declaration}
 use Rattle.cue_print.proofs.Joined.{joined_more, left_joined}
 use Rattle.cue_print.proofs.ListTexts.{none_before}
 
 -- the parts behind another one
 abbrev pub behind : Parts → List ℕ
-behind parts = flat_map conjoined (part_texts parts)
+behind parts = flat_map after_conjunction (part_texts parts)
 
 -- one part
 alone : (t : List ℕ) → t ++ [] ≡ t
 alone t = append-nil t
 
 -- ---- structs
-pub open_struct : (fields : Fields) → enclosed (codes "{") (joined (codes ", ") (field_texts fields)) (codes "}") ≡ value_text (all (struct_part None fields no_parts))
+pub open_struct : (fields : Fields) → enclose_text (codes "{") (join_texts (codes ", ") (field_texts fields)) (codes "}") ≡ value_text (all (struct_part None fields no_parts))
 unfolding value_text part_texts
 open_struct fields = sym (alone (struct_text (field_texts fields)))
 
 pub closed_struct :
     (labels : List (List ℕ)) (fields : Fields)
-    → codes "close({" ++ (joined (codes ", ") (field_texts (inside labels fields)) ++ (codes "})" ++ beside_text (Some labels) fields)) ≡ value_text (all (struct_part (Some labels) fields no_parts))
+    → codes "close({" ++ (join_texts (codes ", ") (field_texts (fields_of_labels labels fields)) ++ (codes "})" ++ beside_text (Some labels) fields)) ≡ value_text (all (struct_part (Some labels) fields no_parts))
 unfolding value_text part_texts beside_text
 closed_struct labels fields =
-    let inner : List ℕ = joined (codes ", ") (field_texts (inside labels fields)) in
-    let rest : List ℕ = flat_map conjoined (part_texts (struct_if_any (outside labels fields) no_parts)) in
+    let inner : List ℕ = join_texts (codes ", ") (field_texts (fields_of_labels labels fields)) in
+    let rest : List ℕ = flat_map after_conjunction (part_texts (struct_if_any (fields_of_others labels fields) no_parts)) in
     ap (λ t. codes "close({" ++ t) (sym (append_assoc inner (codes "})") rest) ∙ ap (λ t. t ++ rest) (sym (append_assoc inner (codes "}") (codes ")"))))
 
 -- a struct, as it is written
@@ -47,14 +47,14 @@ if_any_then : (fields : Fields) (parts : Parts) → behind (struct_if_any fields
 unfolding part_texts
 if_any_then no_more parts = refl
 if_any_then (field l level value fields) parts =
-    ap (λ t. t ++ behind parts) (sym (alone (conjoined (struct_text (field_texts (field l level value fields))))))
+    ap (λ t. t ++ behind parts) (sym (alone (after_conjunction (struct_text (field_texts (field l level value fields))))))
 
 pub struct_then : (labels : Option (List (List ℕ))) (fields : Fields) (parts : Parts) → value_text (all (struct_part labels fields parts)) ≡ value_text (all (struct_part labels fields no_parts)) ++ behind parts
 unfolding value_text part_texts
 struct_then None fields parts = ap (λ t. t ++ behind parts) (sym (alone (struct_text (field_texts fields))))
 struct_then (Some labels) fields parts =
-    let closed : List ℕ = enclosed (codes "close(") (struct_text (field_texts (inside labels fields))) (codes ")") in
-    ap (λ t. closed ++ t) (if_any_then (outside labels fields) parts) ∙ sym (append_assoc closed (behind (struct_if_any (outside labels fields) no_parts)) (behind parts))
+    let closed : List ℕ = enclose_text (codes "close(") (struct_text (field_texts (fields_of_labels labels fields))) (codes ")") in
+    ap (λ t. closed ++ t) (if_any_then (fields_of_others labels fields) parts) ∙ sym (append_assoc closed (behind (struct_if_any (fields_of_others labels fields) no_parts)) (behind parts))
 
 -- ---- lists
 -- how a list ends, by whether its elements alone tell it
@@ -62,7 +62,7 @@ abbrev pub ended : Bool → Option Value → Ending
 ended true further = ends
 ended false further = dots further
 
-ending_told : (further : Option Value) → ending_texts (dots further) ≡ (codes "..." ++ told_text further) ∷ []
+ending_told : (further : Option Value) → ending_texts (dots further) ≡ (codes "..." ++ rest_value_text further) ∷ []
 unfolding ending_texts
 ending_told None = refl
 ending_told (Some value) = refl
@@ -70,14 +70,14 @@ ending_told (Some value) = refl
 -- the elements of a list, and what ends them
 pub list_ended :
     (count : ℕ) (value_at : ℕ → Value) (exact : Bool) (further : Option Value)
-    → joined (codes ", ") (element_texts (elements count value_at) ++ ending_texts (ended exact further)) ≡ joined (codes ", ") (element_texts (elements count value_at)) ++ ending_text count exact further
+    → join_texts (codes ", ") (element_texts (elements count value_at) ++ ending_texts (ended exact further)) ≡ join_texts (codes ", ") (element_texts (elements count value_at)) ++ ending_text count exact further
 unfolding ending_texts
 list_ended count value_at true further =
-    ap (joined (codes ", ")) (append-nil (element_texts (elements count value_at))) ∙ sym (append-nil (joined (codes ", ") (element_texts (elements count value_at))))
+    ap (join_texts (codes ", ")) (append-nil (element_texts (elements count value_at))) ∙ sym (append-nil (join_texts (codes ", ") (element_texts (elements count value_at))))
 list_ended count value_at false further =
-    ap (λ ts. joined (codes ", ") (element_texts (elements count value_at) ++ ts)) (ending_told further)
-    ∙ joined_more (codes ", ") (element_texts (elements count value_at)) (codes "..." ++ told_text further)
-    ∙ ap (λ b. joined (codes ", ") (element_texts (elements count value_at)) ++ (lead (codes ", ") b ++ (codes "..." ++ told_text further))) (none_before count value_at)
+    ap (λ ts. join_texts (codes ", ") (element_texts (elements count value_at) ++ ts)) (ending_told further)
+    ∙ joined_more (codes ", ") (element_texts (elements count value_at)) (codes "..." ++ rest_value_text further)
+    ∙ ap (λ b. join_texts (codes ", ") (element_texts (elements count value_at)) ++ (separator_before (codes ", ") b ++ (codes "..." ++ rest_value_text further))) (none_before count value_at)
 
 list_told :
     (least : ℕ) (most : Option ℕ) (value_at : ℕ → Value) (further : Option Value)
@@ -94,7 +94,7 @@ list_told least (Some most) value_at further = by (is_exact least (Some most) fu
   by false =
       let tops : List (List ℕ) = element_texts (elements most (λ n. top)) in
       ap (λ t. list_text (element_texts (elements least value_at) ++ ending_texts (dots further)) ++ t)
-      (ap (λ ts. conjoined (list_text ts)) (sym (append-nil tops)) ∙ sym (append-nil (conjoined (list_text (tops ++ [])))))
+      (ap (λ ts. after_conjunction (list_text ts)) (sym (append-nil tops)) ∙ sym (append-nil (after_conjunction (list_text (tops ++ [])))))
 
 pub list_then : (least : ℕ) (most : Option ℕ) (value_at : ℕ → Value) (further : Option Value) (parts : Parts) → value_text (all (list_part least most value_at further parts)) ≡ value_text (all (list_part least most value_at further no_parts)) ++ behind parts
 unfolding value_text part_texts
@@ -107,7 +107,7 @@ list_then least (Some most) value_at further parts = by (is_exact least (Some mo
   by true = ap (λ t. t ++ behind parts) (sym (alone (list_text (element_texts (elements least value_at) ++ ending_texts ends))))
   by false =
       let short : List ℕ = list_text (element_texts (elements least value_at) ++ ending_texts (dots further)) in
-      let long : List ℕ = conjoined (list_text (element_texts (elements most (λ n. top)) ++ ending_texts ends)) in
+      let long : List ℕ = after_conjunction (list_text (element_texts (elements most (λ n. top)) ++ ending_texts ends)) in
       ap (λ t. short ++ t) (ap (λ t. t ++ behind parts) (sym (alone long))) ∙ sym (append_assoc short (long ++ []) (behind parts))
 
 -- a list, as it is written
@@ -116,7 +116,7 @@ pub list_spelled :
     → written_list least most value_at further ≡ value_text (all (list_part least most value_at further no_parts))
 list_spelled least most value_at further =
     let exact : Bool = is_exact least most further in
-    let inner : List ℕ = joined (codes ", ") (element_texts (elements least value_at)) in
+    let inner : List ℕ = join_texts (codes ", ") (element_texts (elements least value_at)) in
     let end : List ℕ = ending_text least exact further in
     let long : List ℕ = longest_text most exact in
     ap (λ t. codes "[" ++ t) (sym (append_assoc inner end (codes "]" ++ long)) ∙ sym (append_assoc (inner ++ end) (codes "]") long))
@@ -189,7 +189,7 @@ nothing_told row fields value_at further = ap (λ t. struct_before row fields ++
 -- ---- fields whose labels may not stand
 abbrev pub outside_of : Option (List (List ℕ)) → Fields → Fields
 outside_of None fields = no_more
-outside_of (Some labels) fields = outside labels fields
+outside_of (Some labels) fields = fields_of_others labels fields
 
 -- what is left of them, where one was written or not
 abbrev pub outside_text : Bool → Fields → List ℕ
@@ -209,14 +209,14 @@ all_outside labels children items e = ap (λ fs. outside_text true (outside_of l
 
 first_opened :
     (is_first : Bool) (l : List ℕ) (level : Level) (value : Value) (fields : Fields)
-    → outside_text is_first (field l level value fields) ≡ opening is_first ++ ((quoted l ++ (mark_text level ++ value_text value)) ++ outside_text false fields)
+    → outside_text is_first (field l level value fields) ≡ field_opening is_first ++ ((quote_text l ++ (mark_text level ++ value_text value)) ++ outside_text false fields)
 unfolding part_texts field_texts
 first_opened true l level value fields =
-    let one : List ℕ = quoted l ++ (mark_text level ++ value_text value) in
+    let one : List ℕ = quote_text l ++ (mark_text level ++ value_text value) in
     let rest : List ℕ = left_joined (codes ", ") false (field_texts fields) in
-    alone (opening true ++ ((one ++ rest) ++ codes "}")) ∙ ap (λ t. opening true ++ t) (append_assoc one rest (codes "}"))
+    alone (field_opening true ++ ((one ++ rest) ++ codes "}")) ∙ ap (λ t. field_opening true ++ t) (append_assoc one rest (codes "}"))
 first_opened false l level value fields =
-    let one : List ℕ = quoted l ++ (mark_text level ++ value_text value) in
+    let one : List ℕ = quote_text l ++ (mark_text level ++ value_text value) in
     let rest : List ℕ = left_joined (codes ", ") false (field_texts fields) in
     ap (λ t. codes ", " ++ t) (append_assoc one rest (codes "}"))
 
@@ -235,7 +235,7 @@ none_outside (Some labels) = refl
 -- the next field is one of them
 pub first_outside :
     (is_first : Bool) (labels : Option (List (List ℕ))) (items others : List (List ℕ × Tree Row)) (item : List ℕ × Tree Row) → items ≡ item ∷ others → allows_label labels item.0 ≡ false
-    → outside_text is_first (outside_of labels (fields_of items)) ≡ opening is_first ++ (declaration item.0 item.1 ++ outside_text false (outside_of labels (fields_of others)))
+    → outside_text is_first (outside_of labels (fields_of items)) ≡ field_opening is_first ++ (declaration item.0 item.1 ++ outside_text false (outside_of labels (fields_of others)))
 first_outside is_first labels items others item e h =
     ap (λ is. outside_text is_first (outside_of labels (fields_of is))) e
     ∙ ap (outside_text is_first) (outside_more labels item.0 (level_at (row_of item.1)) (value_of item.1) (fields_of others) h)
@@ -253,7 +253,7 @@ no_outside : (labels : Option (List (List ℕ))) (items : List (List ℕ × Tree
 no_outside labels items e = ap (λ is. outside_of labels (fields_of is)) e ∙ none_outside labels
 
 -- all are written
-pub outside_closed : (is_first : Bool) (labels : Option (List (List ℕ))) (items : List (List ℕ × Tree Row)) → items ≡ [] → outside_text is_first (outside_of labels (fields_of items)) ≡ closing is_first ++ []
+pub outside_closed : (is_first : Bool) (labels : Option (List (List ℕ))) (items : List (List ℕ × Tree Row)) → items ≡ [] → outside_text is_first (outside_of labels (fields_of items)) ≡ fields_closing is_first ++ []
 unfolding field_texts part_texts
 outside_closed true labels items e = ap (outside_text true) (no_outside labels items e)
 outside_closed false labels items e = ap (outside_text false) (no_outside labels items e)

@@ -11,11 +11,11 @@ use Rattle.cue_sets.specs.TextLaws.{some_text}
 use Rattle.cue_scalars.specs.declared.scalar_set.ScalarSet.{ScalarSet}
 use Rattle.cue_scalars.specs.Scalars.{members, IsScalarSet}
 use Rattle.cue_row.specs.declared.parts.RowParts.{RowParts as Row}
-use Rattle.cue_table.specs.Tree.{Tree, node, below, rest_of, row_of}
-use Rattle.cue_print.specs.Difference.{without}
-use Rattle.cue_print.specs.Expressions.{Value, top, all, no_parts, Term, Fields}
-use Rattle.cue_print.specs.Printed.{inside, struct_part, scalar_value, nothing_value, scalar_or_nothing, value_by, row_value, value_of, fields_below, element_below, element_at, rest_value}
-use Rattle.cue_print.specs.Spelled.{joined, value_text, field_texts}
+use Rattle.cue_table.specs.Tree.{Tree, node, below, rest_below, row_of}
+use Rattle.cue_print.specs.Difference.{scalars_without}
+use Rattle.cue_print.specs.Expressions.{Value, top, all, no_parts, PrintedTerm, Fields}
+use Rattle.cue_print.specs.Printed.{fields_of_labels, struct_part, scalar_value, nothing_value, scalar_or_nothing, value_by, row_value, value_of, fields_below, element_below, element_at, rest_value}
+use Rattle.cue_print.specs.Spelled.{join_texts, value_text, field_texts}
 use Rattle.cue_print.specs.Terms.{null_terms, truth_terms, piece_term, text_terms, terms_of}
 
 -- ---- the kind of a place
@@ -26,7 +26,7 @@ no_row (node (Some row) children rest) e = cc
 
 pub by_kind :
     (tree : Tree Row) (row : Row) (struct_ok list_ok : Bool) → Some row ≡ row_of tree → row.struct_ok ≡ struct_ok → row.list_ok ≡ list_ok
-    → value_by struct_ok list_ok row (fields_below (below tree)) (element_at (rest_of tree) (element_below (below tree))) (rest_value (rest_of tree)) ≡ value_of tree
+    → value_by struct_ok list_ok row (fields_below (below tree)) (element_at (rest_below tree) (element_below (below tree))) (rest_value (rest_below tree)) ≡ value_of tree
 unfolding value_of row_value
 by_kind (node None children rest) row struct_ok list_ok e s l = cc
 by_kind (node (Some here) children rest) row struct_ok list_ok e s l =
@@ -109,11 +109,11 @@ no_members set e = each where
   each (scalars.Text t) = no_text set.texts (others_none (map piece_term set.ints) (text_terms set.texts) last) t
 
 pub by_terms :
-    (terms : List Term) (row : Row) (fields : Fields) (value_at : ℕ → Value) (further : Option Value) → (terms ≡ [] → ⊥)
-    → scalar_value terms (terms_of row.usual) (terms_of (without row.value row.usual)) ≡ scalar_or_nothing terms row fields value_at further
+    (terms : List PrintedTerm) (row : Row) (fields : Fields) (value_at : ℕ → Value) (further : Option Value) → (terms ≡ [] → ⊥)
+    → scalar_value terms (terms_of row.usual) (terms_of (scalars_without row.value row.usual)) ≡ scalar_or_nothing terms row fields value_at further
 by_terms [] row fields value_at further h = absurd (h refl)
 by_terms (term ∷ terms) row fields value_at further h = refl
 
-pub without_terms : (terms : List Term) (row : Row) (fields : Fields) (value_at : ℕ → Value) (further : Option Value) → terms ≡ [] → nothing_value row fields value_at further ≡ scalar_or_nothing terms row fields value_at further
+pub without_terms : (terms : List PrintedTerm) (row : Row) (fields : Fields) (value_at : ℕ → Value) (further : Option Value) → terms ≡ [] → nothing_value row fields value_at further ≡ scalar_or_nothing terms row fields value_at further
 without_terms [] row fields value_at further e = refl
 without_terms (term ∷ terms) row fields value_at further e = cc

@@ -4,15 +4,15 @@ use Rattle.std.specs.Str.{bytes_eq}
 use Rattle.std.specs.declared.cmp.Ordering.{Ordering}
 use Rattle.std.specs.declared.cmp.Ordering.TheVariants.{Less, Equal, Greater}
 use Rattle.std.proofs.lemmas.Slice.Eq.{bytes_eq-Decides}
-use Rattle.cue_sets.specs.Texts.{text_cmp, is_listed, is_text_member, IsBelowAll, IsAscending}
-use Rattle.cue_sets.specs.TextLaws.{reverse_cmp, same_from_equal, IsBelowAll-lower}
-use Rattle.cue_print.specs.Difference.{inserted_at, inserted, all_inserted, texts_without}
+use Rattle.cue_sets.specs.Texts.{text_cmp, is_listed, is_text_member, IsTextBelowAll, IsAscending}
+use Rattle.cue_sets.specs.TextLaws.{reverse_cmp, same_from_equal, IsTextBelowAll-lower}
+use Rattle.cue_print.specs.Difference.{inserted_at, insert_text, all_inserted, texts_without}
 
 -- ---- texts that are kept
-kept_below : (keep : List ℕ → Bool) (p : List ℕ) (xs : List (List ℕ)) → IsBelowAll p xs → IsBelowAll p (filter keep xs)
+kept_below : (keep : List ℕ → Bool) (p : List ℕ) (xs : List (List ℕ)) → IsTextBelowAll p xs → IsTextBelowAll p (filter keep xs)
 kept_below keep p [] b = tt
 kept_below keep p (x ∷ xs) b = by (kept_below keep p xs b.1) (keep x) refl where
-  by : IsBelowAll p (filter keep xs) → (k : Bool) → keep x ≡ k → IsBelowAll p (filter keep (x ∷ xs))
+  by : IsTextBelowAll p (filter keep xs) → (k : Bool) → keep x ≡ k → IsTextBelowAll p (filter keep (x ∷ xs))
   by later true e = rw e (b.0, later)
   by later false e = rw e later
 
@@ -39,19 +39,19 @@ kept_listed keep (x ∷ xs) t = by (kept_listed keep xs t) (keep x) (bytes_eq x 
   by h false false e f = rw (e, f) h
 
 -- ---- texts that are inserted
-inserted_below : (p t : List ℕ) (xs : List (List ℕ)) → text_cmp p t ≡ Less → IsBelowAll p xs → IsBelowAll p (inserted t xs)
+inserted_below : (p t : List ℕ) (xs : List (List ℕ)) → text_cmp p t ≡ Less → IsTextBelowAll p xs → IsTextBelowAll p (insert_text t xs)
 inserted_below p t [] h b = (h, tt)
 inserted_below p t (x ∷ xs) h b = at (text_cmp t x) (inserted_below p t xs h b.1) where
-  at : (o : Ordering) → IsBelowAll p (inserted t xs) → IsBelowAll p (inserted_at o t x xs (inserted t xs))
+  at : (o : Ordering) → IsTextBelowAll p (insert_text t xs) → IsTextBelowAll p (inserted_at o t x xs (insert_text t xs))
   at Less later = (h, b)
   at Equal later = b
   at Greater later = (b.0, later)
 
-inserted_ascends : (t : List ℕ) (xs : List (List ℕ)) → IsAscending xs → IsAscending (inserted t xs)
+inserted_ascends : (t : List ℕ) (xs : List (List ℕ)) → IsAscending xs → IsAscending (insert_text t xs)
 inserted_ascends t [] a = (tt, tt)
 inserted_ascends t (x ∷ xs) a = at (text_cmp t x) refl (inserted_ascends t xs a.1) where
-  at : (o : Ordering) → text_cmp t x ≡ o → IsAscending (inserted t xs) → IsAscending (inserted_at o t x xs (inserted t xs))
-  at Less e later = ((e, IsBelowAll-lower t x xs e a.0), a)
+  at : (o : Ordering) → text_cmp t x ≡ o → IsAscending (insert_text t xs) → IsAscending (inserted_at o t x xs (insert_text t xs))
+  at Less e later = ((e, IsTextBelowAll-lower t x xs e a.0), a)
   at Equal e later = a
   at Greater e later = (inserted_below x t xs (reverse_cmp t x Greater e) a.0, later)
 
@@ -64,10 +64,10 @@ once : (a c : Bool) → (a || c) ≡ (a || (a || c))
 once true c = refl
 once false c = refl
 
-inserted_listed : (t : List ℕ) (xs : List (List ℕ)) (s : List ℕ) → is_listed (inserted t xs) s ≡ (bytes_eq t s || is_listed xs s)
+inserted_listed : (t : List ℕ) (xs : List (List ℕ)) (s : List ℕ) → is_listed (insert_text t xs) s ≡ (bytes_eq t s || is_listed xs s)
 inserted_listed t [] s = refl
 inserted_listed t (x ∷ xs) s = at (text_cmp t x) refl (inserted_listed t xs s) where
-  at : (o : Ordering) → text_cmp t x ≡ o → is_listed (inserted t xs) s ≡ (bytes_eq t s || is_listed xs s) → is_listed (inserted_at o t x xs (inserted t xs)) s ≡ (bytes_eq t s || is_listed (x ∷ xs) s)
+  at : (o : Ordering) → text_cmp t x ≡ o → is_listed (insert_text t xs) s ≡ (bytes_eq t s || is_listed xs s) → is_listed (inserted_at o t x xs (insert_text t xs)) s ≡ (bytes_eq t s || is_listed (x ∷ xs) s)
   at Less e later = refl
   at Equal e later = once (bytes_eq x s) (is_listed xs s) ∙ ap (λ z. bytes_eq z s || is_listed (x ∷ xs) s) (sym (same_from_equal t x e))
   at Greater e later = ap (λ b. bytes_eq x s || b) later ∙ swapped (bytes_eq x s) (bytes_eq t s) (is_listed xs s)

@@ -12,26 +12,26 @@ use Rattle.cue_scalars.specs.declared.scalar_set.ScalarSet.{ScalarSet}
 abbrev pub span : ℤ → ℤ → List (ℤ × ℤ)
 span first last = if int_le first last then (first, last) ∷ [] else []
 
-abbrev pub lesser : ℤ → ℤ → ℤ
-lesser m n = if int_le m n then m else n
+abbrev pub minimum : ℤ → ℤ → ℤ
+minimum m n = if int_le m n then m else n
 
-abbrev pub greater : ℤ → ℤ → ℤ
-greater m n = if int_le m n then n else m
+abbrev pub maximum : ℤ → ℤ → ℤ
+maximum m n = if int_le m n then n else m
 
 -- what is left of a piece without another one: what is before that and what is behind it
 abbrev pub piece_without : ℤ × ℤ → ℤ × ℤ → List (ℤ × ℤ)
 piece_without gap piece =
-    span piece.0 (lesser piece.1 (gap.0 -ℤ pos 1))
-    ++ span (greater piece.0 (gap.1 +ℤ pos 1)) piece.1
+    span piece.0 (minimum piece.1 (gap.0 -ℤ pos 1))
+    ++ span (maximum piece.0 (gap.1 +ℤ pos 1)) piece.1
 
 -- the pieces without one piece
-abbrev pub cut : ℤ × ℤ → List (ℤ × ℤ) → List (ℤ × ℤ)
-cut gap pieces = flat_map (piece_without gap) pieces
+abbrev pub cut_piece : ℤ × ℤ → List (ℤ × ℤ) → List (ℤ × ℤ)
+cut_piece gap pieces = flat_map (piece_without gap) pieces
 
 -- the pieces without these
 abbrev pub pieces_without : List (ℤ × ℤ) → List (ℤ × ℤ) → List (ℤ × ℤ)
 pieces_without pieces [] = pieces
-pieces_without pieces (gap ∷ gaps) = pieces_without (cut gap pieces) gaps
+pieces_without pieces (gap ∷ gaps) = pieces_without (cut_piece gap pieces) gaps
 
 -- ---- texts
 -- a text by how it compares with the first of some texts; `later` has it among the others
@@ -41,13 +41,13 @@ inserted_at Equal t first others later = first ∷ others
 inserted_at Greater t first others later = first ∷ later
 
 -- a text at its place among ascending ones
-abbrev pub inserted : List ℕ → List (List ℕ) → List (List ℕ)
-inserted t [] = t ∷ []
-inserted t (first ∷ others) = inserted_at (text_cmp t first) t first others (inserted t others)
+abbrev pub insert_text : List ℕ → List (List ℕ) → List (List ℕ)
+insert_text t [] = t ∷ []
+insert_text t (first ∷ others) = inserted_at (text_cmp t first) t first others (insert_text t others)
 
 abbrev pub all_inserted : List (List ℕ) → List (List ℕ) → List (List ℕ)
 all_inserted [] texts = texts
-all_inserted (t ∷ ts) texts = inserted t (all_inserted ts texts)
+all_inserted (t ∷ ts) texts = insert_text t (all_inserted ts texts)
 
 -- Of a finite set those stay that the other lacks. All texts but some, without all but others, are
 -- those of the others that are not left out already; without a finite set they leave out its
@@ -58,8 +58,8 @@ texts_without (true, texts) (true, others) = (false, filter (λ t. not (is_liste
 texts_without (true, texts) (false, others) = (true, all_inserted others texts)
 
 -- ---- scalars
-abbrev pub without : ScalarSet → ScalarSet → ScalarSet
-without set other = record {
+abbrev pub scalars_without : ScalarSet → ScalarSet → ScalarSet
+scalars_without set other = record {
   null = set.null && not other.null;
   no = set.no && not other.no;
   yes = set.yes && not other.yes;

@@ -5,25 +5,25 @@ use Rattle.cue_row.specs.declared.level.Level.{Level}
 -- A term of a disjunction of scalars: `null`; `bool`, or one truth value; `int`, one integer, all
 -- up to one, all from one on, or all from one to another; `string`, one text, or all texts but
 -- these.
-pub data Term : Type 0 where
-  null : Term
-  truths : Term
-  truth : Bool → Term
-  integers : Term
-  number : ℤ → Term
-  at_most : ℤ → Term
-  at_least : ℤ → Term
-  between : ℤ → ℤ → Term
-  texts : Term
-  text : List ℕ → Term
-  other_texts : List (List ℕ) → Term
+pub data PrintedTerm : Type 0 where
+  null : PrintedTerm
+  truths : PrintedTerm
+  truth : Bool → PrintedTerm
+  integers : PrintedTerm
+  number : ℤ → PrintedTerm
+  at_most : ℤ → PrintedTerm
+  at_least : ℤ → PrintedTerm
+  between : ℤ → ℤ → PrintedTerm
+  texts : PrintedTerm
+  text : List ℕ → PrintedTerm
+  other_texts : List (List ℕ) → PrintedTerm
 
 mutual
   -- anything; a disjunction of scalars, with the terms of its default where one is written; or
   -- parts that are unified
   pub data Value : Type 0 where
     top : Value
-    scalar : Option (List Term) → List Term → Value
+    scalar : Option (List PrintedTerm) → List PrintedTerm → Value
     all : Parts → Value
 
   -- a struct literal; one in `close`; a list literal with its ending; or `_|_`: each in front of

@@ -8,8 +8,8 @@ use Rattle.cue_row.specs.declared.level.Level.{Level}
 use Rattle.cue_row.specs.declared.level.Level.TheVariants.{Optional}
 use Rattle.cue_row.specs.declared.parts.RowParts.{RowParts as Row}
 use Rattle.cue_table.specs.Tree.{Tree, node, Children, none, child, Rest, no_rest, onward, row_of}
-use Rattle.cue_print.specs.Difference.{without}
-use Rattle.cue_print.specs.Expressions.{Term, Value, top, scalar, all, Parts, no_parts, struct}
+use Rattle.cue_print.specs.Difference.{scalars_without}
+use Rattle.cue_print.specs.Expressions.{PrintedTerm, Value, top, scalar, all, Parts, no_parts, struct}
 use Rattle.cue_print.specs.Expressions.{close, list, bottom}
 use Rattle.cue_print.specs.Expressions.{Fields, no_more, field, Elements, no_elements, element}
 use Rattle.cue_print.specs.Expressions.{Ending, ends, goes_on, goes_on_as}
@@ -17,22 +17,22 @@ use Rattle.cue_print.specs.Terms.{terms_of}
 
 -- ---- structs: the fields are those of all rows below
 -- the field of a label in front of others; where there is none, an optional one of anything
-abbrev pub declared : List ℕ → Fields → Fields → Fields
-declared l no_more others = field l Optional top others
-declared l (field name level value fields) others =
-    if bytes_eq name l then field l level value others else declared l fields others
+abbrev pub field_in_front : List ℕ → Fields → Fields → Fields
+field_in_front l no_more others = field l Optional top others
+field_in_front l (field name level value fields) others =
+    if bytes_eq name l then field l level value others else field_in_front l fields others
 
 -- the field of each label
-abbrev pub inside : List (List ℕ) → Fields → Fields
-inside [] fields = no_more
-inside (l ∷ labels) fields = declared l fields (inside labels fields)
+abbrev pub fields_of_labels : List (List ℕ) → Fields → Fields
+fields_of_labels [] fields = no_more
+fields_of_labels (l ∷ labels) fields = field_in_front l fields (fields_of_labels labels fields)
 
 -- the fields of all other labels
-abbrev pub outside : List (List ℕ) → Fields → Fields
-outside labels no_more = no_more
-outside labels (field name level value fields) =
-    if is_listed labels name then outside labels fields
-    else field name level value (outside labels fields)
+abbrev pub fields_of_others : List (List ℕ) → Fields → Fields
+fields_of_others labels no_more = no_more
+fields_of_others labels (field name level value fields) =
+    if is_listed labels name then fields_of_others labels fields
+    else field name level value (fields_of_others labels fields)
 
 -- a struct literal, where it has a field
 abbrev pub struct_if_any : Fields → Parts → Parts
@@ -43,9 +43,9 @@ struct_if_any (field name level value fields) parts = struct (field name level v
 abbrev pub struct_part : Option (List (List ℕ)) → Fields → Parts → Parts
 struct_part None fields parts = struct fields parts
 struct_part (Some labels) fields parts =
-    close (inside labels fields) (struct_if_any (outside labels fields) parts)
+    close (fields_of_labels labels fields) (struct_if_any (fields_of_others labels fields) parts)
 
--- ---- lists: `value_at` gives the value of each element, `further` that of all elements behind
+-- ---- lists: `value_at` gives the value of each element, `path_below` that of all elements behind
 -- those, where something is said of them
 -- so many elements, from a first one on
 abbrev pub elements_from : ℕ → ℕ → (ℕ → Value) → Elements
@@ -70,7 +70,7 @@ list_part least (Some most) value_at further parts =
 
 -- ---- scalars
 -- by the terms of the value, of what is usual, and of what of the value is not usual
-abbrev pub scalar_value : List Term → List Term → List Term → Value
+abbrev pub scalar_value : List PrintedTerm → List PrintedTerm → List PrintedTerm → Value
 scalar_value value usual [] = scalar None value
 scalar_value value usual (term ∷ others) = scalar (Some usual) (term ∷ others)
 
@@ -94,10 +94,10 @@ nothing_value row fields value_at further =
 
 -- ---- places
 -- where neither a struct nor a list may stand, by the terms of the scalars that may
-abbrev pub scalar_or_nothing : List Term → Row → Fields → (ℕ → Value) → Option Value → Value
+abbrev pub scalar_or_nothing : List PrintedTerm → Row → Fields → (ℕ → Value) → Option Value → Value
 scalar_or_nothing [] row fields value_at further = nothing_value row fields value_at further
 scalar_or_nothing (term ∷ terms) row fields value_at further =
-    scalar_value (term ∷ terms) (terms_of row.usual) (terms_of (without row.value row.usual))
+    scalar_value (term ∷ terms) (terms_of row.usual) (terms_of (scalars_without row.value row.usual))
 
 -- by whether a struct may stand, and whether a list may: anything, a struct, a list, a scalar or
 -- nothing

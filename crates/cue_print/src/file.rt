@@ -1,7 +1,7 @@
 ghost use Rattle.std.specs.Prelude.{◌≡◌, IfOk, OnErr, OnOk, string_bytes};
 ghost use Rattle.std.specs.Io.KnownBytes.{Appends};
 ghost use Rattle.std.specs.List.{flat_map};
-ghost use Rattle.cue_device.specs.Texts.{Begins};
+ghost use Rattle.cue_device.specs.Texts.{WritesPrefix};
 ghost use Rattle.cue_table.specs.Tree.{below};
 ghost use Rattle.cue_print.specs.Printed.{fields_below, file_of};
 ghost use Rattle.cue_print.specs.Spelled.{line, field_texts, file_text};
@@ -31,10 +31,14 @@ pub fn print(alloc: Global, table: &Table<Row>) -> Result<String, Memory>
 ///
 /// Where the sink takes no more, or memory is wanting; then the walk ends, and what the sink took
 /// begins the text.
-pub fn print_to<S: TextSink>(alloc: Global, table: &Table<Row>, out: &mut S) -> Result<(), S::Halt>
+pub fn print_to<S: TextSink>(
+    alloc: Global,
+    table: &Table<Row>,
+    out: &mut S,
+) -> Result<(), S::SinkError>
     ensures told { OnOk result (Appends (S.taken out.old) (S.taken out.new)
         (file_text (file_of table.now))) }
-    ensures begun { OnErr result (Begins (S.taken out.old) (S.taken out.new)
+    ensures begun { OnErr result (WritesPrefix (S.taken out.old) (S.taken out.new)
         (file_text (file_of table.now))) }
 {
     let mut scratch = Scratch::new(alloc);
@@ -47,10 +51,10 @@ fn push_file<S: TextSink>(
     scratch: &mut Scratch,
     out: &mut S,
     root: &Branch<Row>,
-) -> Result<(), S::Halt>
+) -> Result<(), S::SinkError>
     ensures told { OnOk result (Appends (S.taken out.old) (S.taken out.new)
         (file_text (file_of root.now))) }
-    ensures begun { OnErr result (Begins (S.taken out.old) (S.taken out.new)
+    ensures begun { OnErr result (WritesPrefix (S.taken out.old) (S.taken out.new)
         (file_text (file_of root.now))) }
 {
     match root.row() {
@@ -64,10 +68,10 @@ fn push_lines<S: TextSink>(
     scratch: &mut Scratch,
     out: &mut S,
     branch: &Branch<Row>,
-) -> Result<(), S::Halt>
+) -> Result<(), S::SinkError>
     ensures told { OnOk result (Appends (S.taken out.old) (S.taken out.new)
         (flat_map line (field_texts (fields_below (below branch.now))))) }
-    ensures begun { OnErr result (Begins (S.taken out.old) (S.taken out.new)
+    ensures begun { OnErr result (WritesPrefix (S.taken out.old) (S.taken out.new)
         (flat_map line (field_texts (fields_below (below branch.now))))) }
 {
     for (label, field) in branch.labels() {

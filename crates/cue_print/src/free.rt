@@ -1,12 +1,12 @@
 //! What lets anything stand.
 ghost use Rattle.std.specs.Prelude.{◌++◌, codes, OnErr, OnOk};
 ghost use Rattle.std.specs.Io.KnownBytes.{Appends};
-ghost use Rattle.cue_device.specs.Texts.{Begins};
-ghost use Rattle.cue_row.specs.Quoted.{quoted};
+ghost use Rattle.cue_device.specs.Texts.{WritesPrefix};
+ghost use Rattle.cue_row.specs.Quoted.{quote_text};
 ghost use Rattle.cue_print.specs.Expressions.{top};
-ghost use Rattle.cue_print.specs.Inner.Writing.{conjoined, longest_text};
+ghost use Rattle.cue_print.specs.Inner.Writing.{after_conjunction, longest_text};
 ghost use Rattle.cue_print.specs.Printed.{elements};
-ghost use Rattle.cue_print.specs.Spelled.{element_texts, joined, list_text};
+ghost use Rattle.cue_print.specs.Spelled.{element_texts, join_texts, list_text};
 
 use crate::writer::{Scratch, push_text, separate};
 use cue_device::TextSink;
@@ -18,11 +18,11 @@ pub(crate) fn push_free_field<S: TextSink>(
     scratch: &mut Scratch,
     out: &mut S,
     label: &Text,
-) -> Result<(), S::Halt>
+) -> Result<(), S::SinkError>
     ensures told { OnOk result (Appends (S.taken out.old) (S.taken out.new)
-        (quoted label.now ++ codes "?: _")) }
-    ensures begun { OnErr result (Begins (S.taken out.old) (S.taken out.new)
-        (quoted label.now ++ codes "?: _")) }
+        (quote_text label.now ++ codes "?: _")) }
+    ensures begun { OnErr result (WritesPrefix (S.taken out.old) (S.taken out.new)
+        (quote_text label.now ++ codes "?: _")) }
 {
     push_text(scratch, out, label.as_str())?;
     out.put("?: _")?;
@@ -35,10 +35,10 @@ pub(crate) fn push_longest<S: TextSink>(
     out: &mut S,
     most: Option<u32>,
     is_exact: bool,
-) -> Result<(), S::Halt>
+) -> Result<(), S::SinkError>
     ensures told { OnOk result (Appends (S.taken out.old) (S.taken out.new)
         (longest_text most is_exact)) }
-    ensures begun { OnErr result (Begins (S.taken out.old) (S.taken out.new)
+    ensures begun { OnErr result (WritesPrefix (S.taken out.old) (S.taken out.new)
         (longest_text most is_exact)) }
 {
     match most {
@@ -49,11 +49,11 @@ pub(crate) fn push_longest<S: TextSink>(
 
 /// Writes a list of as many free elements behind others.
 #[tactic(auto, using(crate::proofs::Turns::turns))]
-fn push_free_list<S: TextSink>(out: &mut S, count: u32) -> Result<(), S::Halt>
+fn push_free_list<S: TextSink>(out: &mut S, count: u32) -> Result<(), S::SinkError>
     ensures told { OnOk result (Appends (S.taken out.old) (S.taken out.new)
-        (conjoined (list_text (element_texts (elements count (λ n. top)))))) }
-    ensures begun { OnErr result (Begins (S.taken out.old) (S.taken out.new)
-        (conjoined (list_text (element_texts (elements count (λ n. top)))))) }
+        (after_conjunction (list_text (element_texts (elements count (λ n. top)))))) }
+    ensures begun { OnErr result (WritesPrefix (S.taken out.old) (S.taken out.new)
+        (after_conjunction (list_text (element_texts (elements count (λ n. top)))))) }
 {
     out.put(" & [")?;
     push_free_elements(out, count)?;
@@ -62,11 +62,11 @@ fn push_free_list<S: TextSink>(out: &mut S, count: u32) -> Result<(), S::Halt>
 }
 
 /// Writes as many free elements.
-fn push_free_elements<S: TextSink>(out: &mut S, count: u32) -> Result<(), S::Halt>
+fn push_free_elements<S: TextSink>(out: &mut S, count: u32) -> Result<(), S::SinkError>
     ensures told { OnOk result (Appends (S.taken out.old) (S.taken out.new)
-        (joined (codes ", ") (element_texts (elements count (λ n. top))))) }
-    ensures begun { OnErr result (Begins (S.taken out.old) (S.taken out.new)
-        (joined (codes ", ") (element_texts (elements count (λ n. top))))) }
+        (join_texts (codes ", ") (element_texts (elements count (λ n. top))))) }
+    ensures begun { OnErr result (WritesPrefix (S.taken out.old) (S.taken out.new)
+        (join_texts (codes ", ") (element_texts (elements count (λ n. top))))) }
 {
     for number in 0..count {
         separate(out, ", ", number == 0)?;

@@ -1,13 +1,13 @@
 ghost use Rattle.std.specs.Prelude.{◌≡◌, ◌++◌, Some, map, IfOk, OnErr, OnOk};
 ghost use Rattle.std.specs.Io.KnownBytes.{Appends};
-ghost use Rattle.cue_device.specs.Texts.{Begins};
-ghost use Rattle.cue_print.specs.Difference.{without};
+ghost use Rattle.cue_device.specs.Texts.{WritesPrefix};
+ghost use Rattle.cue_print.specs.Difference.{scalars_without};
 ghost use Rattle.cue_print.specs.Printed.{scalar_value};
 ghost use Rattle.cue_print.specs.Spelled.{default_text, terms_text, value_text};
 ghost use Rattle.cue_print.specs.Terms.{terms_of};
 ghost use Rattle.cue_print.specs.Inner.TermOf.{term_of};
 
-use crate::term::Term;
+use crate::term::PrintedTerm;
 use crate::terms::{push_operand, push_terms, terms_of};
 use crate::writer::Scratch;
 use cue_device::TextSink;
@@ -22,15 +22,15 @@ pub(crate) fn push_scalar<S: TextSink>(
     scratch: &mut Scratch,
     out: &mut S,
     row: &Row,
-) -> Result<(), S::Halt>
+) -> Result<(), S::SinkError>
     ensures told { OnOk result (Appends (S.taken out.old) (S.taken out.new)
         (value_text (scalar_value (terms_of row.now.value) (terms_of row.now.usual)
-        (terms_of (without row.now.value row.now.usual))))) }
-    ensures begun { OnErr result (Begins (S.taken out.old) (S.taken out.new)
+        (terms_of (scalars_without row.now.value row.now.usual))))) }
+    ensures begun { OnErr result (WritesPrefix (S.taken out.old) (S.taken out.new)
         (value_text (scalar_value (terms_of row.now.value) (terms_of row.now.usual)
-        (terms_of (without row.now.value row.now.usual))))) }
+        (terms_of (scalars_without row.now.value row.now.usual))))) }
 {
-    let others = unusual(scratch.alloc, row)?;
+    let others = unusual_text(scratch.alloc, row)?;
     let terms = terms_of(scratch.alloc, &Scalars::of(&others))?;
     if terms.is_empty() {
         let all = terms_of(scratch.alloc, &row.value())?;
@@ -41,11 +41,11 @@ pub(crate) fn push_scalar<S: TextSink>(
 }
 
 /// The scalars that may stand and are not usual.
-fn unusual(alloc: Global, row: &Row) -> Result<ScalarSet, Memory>
-    ensures { IfOk result (λ set. set ≡ without row.now.value row.now.usual) }
+fn unusual_text(alloc: Global, row: &Row) -> Result<ScalarSet, Memory>
+    ensures { IfOk result (λ set. set ≡ scalars_without row.now.value row.now.usual) }
 {
     row.known();
-    let set = row.unusual(alloc)?;
+    let set = row.without_usual(alloc)?;
     set.known();
     Ok(set)
 }
@@ -55,12 +55,12 @@ fn unusual(alloc: Global, row: &Row) -> Result<ScalarSet, Memory>
 fn push_marked<S: TextSink>(
     scratch: &mut Scratch,
     out: &mut S,
-    usual: &[Term],
-    others: &[Term],
-) -> Result<(), S::Halt>
+    usual: &[PrintedTerm],
+    others: &[PrintedTerm],
+) -> Result<(), S::SinkError>
     ensures told { OnOk result (Appends (S.taken out.old) (S.taken out.new)
         (default_text (Some (map term_of usual.now)) ++ terms_text (map term_of others.now))) }
-    ensures begun { OnErr result (Begins (S.taken out.old) (S.taken out.new)
+    ensures begun { OnErr result (WritesPrefix (S.taken out.old) (S.taken out.new)
         (default_text (Some (map term_of usual.now)) ++ terms_text (map term_of others.now))) }
 {
     push_default(scratch, out, usual)?;
@@ -73,11 +73,11 @@ fn push_marked<S: TextSink>(
 fn push_default<S: TextSink>(
     scratch: &mut Scratch,
     out: &mut S,
-    usual: &[Term],
-) -> Result<(), S::Halt>
+    usual: &[PrintedTerm],
+) -> Result<(), S::SinkError>
     ensures told { OnOk result (Appends (S.taken out.old) (S.taken out.new)
         (default_text (Some (map term_of usual.now)))) }
-    ensures begun { OnErr result (Begins (S.taken out.old) (S.taken out.new)
+    ensures begun { OnErr result (WritesPrefix (S.taken out.old) (S.taken out.new)
         (default_text (Some (map term_of usual.now)))) }
 {
     out.put("*")?;

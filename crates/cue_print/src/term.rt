@@ -1,8 +1,8 @@
 ghost use Rattle.std.specs.Prelude.{◌≡◌, ◌++◌, map, OnErr, OnOk, codes};
 ghost use Rattle.std.specs.Fmt.{signed_decimal};
 ghost use Rattle.std.specs.Io.KnownBytes.{Appends};
-ghost use Rattle.cue_device.specs.Texts.{Begins};
-ghost use Rattle.cue_print.specs.Spelled.{joined, unequal, term_text, is_conjunction};
+ghost use Rattle.cue_device.specs.Texts.{WritesPrefix};
+ghost use Rattle.cue_print.specs.Spelled.{join_texts, spell_unequal, term_text, is_conjunction};
 ghost use Rattle.cue_print.specs.Inner.TermOf.{term_of};
 
 use crate::writer::{Scratch, push_integer, push_text, separate};
@@ -11,7 +11,7 @@ use cue_lattice::Text;
 
 /// A term of a disjunction of scalars.
 #[derive(Clone, Copy, Debug)]
-pub(crate) enum Term<'a> {
+pub(crate) enum PrintedTerm<'a> {
     /// `null`
     Null,
     /// `bool`
@@ -37,12 +37,12 @@ pub(crate) enum Term<'a> {
 }
 
 /// Whether a term is written with `&`.
-pub(crate) fn is_conjunction(term: &Term) -> bool
+pub(crate) fn is_conjunction(term: &PrintedTerm) -> bool
     ensures { result ≡ is_conjunction (term_of term.now) }
 {
     match term {
-        Term::Between(_, _) => true,
-        Term::OtherTexts(texts) => texts.len() > 1,
+        PrintedTerm::Between(_, _) => true,
+        PrintedTerm::OtherTexts(texts) => texts.len() > 1,
         _ => false,
     }
 }
@@ -52,36 +52,36 @@ pub(crate) fn is_conjunction(term: &Term) -> bool
 pub(crate) fn push_term<S: TextSink>(
     scratch: &mut Scratch,
     out: &mut S,
-    term: &Term,
-) -> Result<(), S::Halt>
+    term: &PrintedTerm,
+) -> Result<(), S::SinkError>
     ensures told { OnOk result (Appends (S.taken out.old) (S.taken out.new)
         (term_text (term_of term.now))) }
-    ensures begun { OnErr result (Begins (S.taken out.old) (S.taken out.new)
+    ensures begun { OnErr result (WritesPrefix (S.taken out.old) (S.taken out.new)
         (term_text (term_of term.now))) }
 {
     match term {
-        Term::Null => out.put("null")?,
-        Term::Truths => out.put("bool")?,
-        Term::Truth(false) => out.put("false")?,
-        Term::Truth(true) => out.put("true")?,
-        Term::Integers => out.put("int")?,
-        Term::Number(number) => push_integer(out, *number)?,
-        Term::AtMost(last) => push_bound(out, "<=", *last)?,
-        Term::AtLeast(first) => push_bound(out, ">=", *first)?,
-        Term::Between(first, last) => push_bounds(out, ">=", *first, " & <=", *last)?,
-        Term::Texts => out.put("string")?,
-        Term::Text(text) => push_text(scratch, out, text.as_str())?,
-        Term::OtherTexts(texts) => push_others(scratch, out, texts)?,
+        PrintedTerm::Null => out.put("null")?,
+        PrintedTerm::Truths => out.put("bool")?,
+        PrintedTerm::Truth(false) => out.put("false")?,
+        PrintedTerm::Truth(true) => out.put("true")?,
+        PrintedTerm::Integers => out.put("int")?,
+        PrintedTerm::Number(number) => push_integer(out, *number)?,
+        PrintedTerm::AtMost(last) => push_bound(out, "<=", *last)?,
+        PrintedTerm::AtLeast(first) => push_bound(out, ">=", *first)?,
+        PrintedTerm::Between(first, last) => push_bounds(out, ">=", *first, " & <=", *last)?,
+        PrintedTerm::Texts => out.put("string")?,
+        PrintedTerm::Text(text) => push_text(scratch, out, text.as_str())?,
+        PrintedTerm::OtherTexts(texts) => push_others(scratch, out, texts)?,
     }
     Ok(())
 }
 
 /// Writes a sign and a number.
 #[tactic(auto, using(crate::proofs::Turns::turns))]
-fn push_bound<S: TextSink>(out: &mut S, sign: &str, number: i64) -> Result<(), S::Halt>
+fn push_bound<S: TextSink>(out: &mut S, sign: &str, number: i64) -> Result<(), S::SinkError>
     ensures told { OnOk result (Appends (S.taken out.old) (S.taken out.new)
         (sign.now ++ signed_decimal number)) }
-    ensures begun { OnErr result (Begins (S.taken out.old) (S.taken out.new)
+    ensures begun { OnErr result (WritesPrefix (S.taken out.old) (S.taken out.new)
         (sign.now ++ signed_decimal number)) }
 {
     out.put(sign)?;
@@ -97,10 +97,10 @@ fn push_bounds<S: TextSink>(
     first: i64,
     high: &str,
     last: i64,
-) -> Result<(), S::Halt>
+) -> Result<(), S::SinkError>
     ensures told { OnOk result (Appends (S.taken out.old) (S.taken out.new)
         ((low.now ++ signed_decimal first) ++ (high.now ++ signed_decimal last))) }
-    ensures begun { OnErr result (Begins (S.taken out.old) (S.taken out.new)
+    ensures begun { OnErr result (WritesPrefix (S.taken out.old) (S.taken out.new)
         ((low.now ++ signed_decimal first) ++ (high.now ++ signed_decimal last))) }
 {
     push_bound(out, low, first)?;
@@ -113,11 +113,11 @@ fn push_others<S: TextSink>(
     scratch: &mut Scratch,
     out: &mut S,
     texts: &[Text],
-) -> Result<(), S::Halt>
+) -> Result<(), S::SinkError>
     ensures told { OnOk result (Appends (S.taken out.old) (S.taken out.new)
-        (joined (codes " & ") (map unequal texts.now))) }
-    ensures begun { OnErr result (Begins (S.taken out.old) (S.taken out.new)
-        (joined (codes " & ") (map unequal texts.now))) }
+        (join_texts (codes " & ") (map spell_unequal texts.now))) }
+    ensures begun { OnErr result (WritesPrefix (S.taken out.old) (S.taken out.new)
+        (join_texts (codes " & ") (map spell_unequal texts.now))) }
 {
     for (i, text) in texts.iter().enumerate() {
         separate(out, " & ", i == 0)?;
@@ -128,11 +128,15 @@ fn push_others<S: TextSink>(
 
 /// Writes that a text may not stand.
 #[tactic(auto, using(crate::proofs::Turns::turns))]
-fn push_unequal<S: TextSink>(scratch: &mut Scratch, out: &mut S, text: &Text) -> Result<(), S::Halt>
+fn push_unequal<S: TextSink>(
+    scratch: &mut Scratch,
+    out: &mut S,
+    text: &Text,
+) -> Result<(), S::SinkError>
     ensures told { OnOk result (Appends (S.taken out.old) (S.taken out.new)
-        (unequal text.now)) }
-    ensures begun { OnErr result (Begins (S.taken out.old) (S.taken out.new)
-        (unequal text.now)) }
+        (spell_unequal text.now)) }
+    ensures begun { OnErr result (WritesPrefix (S.taken out.old) (S.taken out.new)
+        (spell_unequal text.now)) }
 {
     out.put("!=")?;
     push_text(scratch, out, text.as_str())?;

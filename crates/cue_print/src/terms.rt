@@ -1,14 +1,14 @@
 //! The terms of a set of scalars.
 ghost use Rattle.std.specs.Prelude.{◌≡◌, ◌++◌, [], map, codes, IfOk, OnErr, OnOk};
 ghost use Rattle.std.specs.Io.KnownBytes.{Appends};
-ghost use Rattle.cue_device.specs.Texts.{Begins};
+ghost use Rattle.cue_device.specs.Texts.{WritesPrefix};
 ghost use Rattle.cue_print.specs.Expressions.{text};
-ghost use Rattle.cue_print.specs.Spelled.{joined, enclosed, term_text, is_compound};
+ghost use Rattle.cue_print.specs.Spelled.{join_texts, enclose_text, term_text, is_compound};
 ghost use Rattle.cue_print.specs.Spelled.{terms_text, operand_text};
 ghost use Rattle.cue_print.specs.Terms.{truth_terms, piece_term, text_terms, terms_of};
 ghost use Rattle.cue_print.specs.Inner.TermOf.{term_of};
 
-use crate::term::{Term, is_conjunction, push_term};
+use crate::term::{PrintedTerm, is_conjunction, push_term};
 use crate::writer::{Scratch, separate};
 use cue_device::TextSink;
 use cue_lattice::{Memory, Text};
@@ -17,12 +17,12 @@ use std::alloc::Global;
 
 /// The terms of a set: null, truth values, integers upwards, texts by their bytes.
 #[tactic(auto, unfolding(crate::specs::Terms::terms_of))]
-pub(crate) fn terms_of<'a>(alloc: Global, set: &Scalars<'a>) -> Result<Vec<Term<'a>>, Memory>
+pub(crate) fn terms_of<'a>(alloc: Global, set: &Scalars<'a>) -> Result<Vec<PrintedTerm<'a>>, Memory>
     ensures { IfOk result (λ terms. map term_of terms.items ≡ terms_of set.now) }
 {
     let mut terms = Vec::new(alloc);
     if set.null() {
-        terms.push(Term::Null)?;
+        terms.push(PrintedTerm::Null)?;
     }
     add_truths(&mut terms, set.no(), set.yes())?;
     add_pieces(&mut terms, set.pieces())?;
@@ -32,21 +32,21 @@ pub(crate) fn terms_of<'a>(alloc: Global, set: &Scalars<'a>) -> Result<Vec<Term<
 }
 
 /// Adds the truth values, by whether each is in the set.
-fn add_truths(terms: &mut Vec<Term>, no: bool, yes: bool) -> Result<(), Memory>
+fn add_truths(terms: &mut Vec<PrintedTerm>, no: bool, yes: bool) -> Result<(), Memory>
     ensures { OnOk result (map term_of terms.new.items
         ≡ map term_of terms.old.items ++ truth_terms no yes) }
 {
     match (no, yes) {
         (false, false) => {}
-        (true, false) => terms.push(Term::Truth(false))?,
-        (false, true) => terms.push(Term::Truth(true))?,
-        (true, true) => terms.push(Term::Truths)?,
+        (true, false) => terms.push(PrintedTerm::Truth(false))?,
+        (false, true) => terms.push(PrintedTerm::Truth(true))?,
+        (true, true) => terms.push(PrintedTerm::Truths)?,
     }
     Ok(())
 }
 
 /// Adds the pieces of a set of integers.
-fn add_pieces(terms: &mut Vec<Term>, pieces: &[(i64, i64)]) -> Result<(), Memory>
+fn add_pieces(terms: &mut Vec<PrintedTerm>, pieces: &[(i64, i64)]) -> Result<(), Memory>
     ensures { OnOk result (map term_of terms.new.items
         ≡ map term_of terms.old.items ++ map piece_term pieces.now) }
 {
@@ -57,27 +57,31 @@ fn add_pieces(terms: &mut Vec<Term>, pieces: &[(i64, i64)]) -> Result<(), Memory
 }
 
 /// The integers from a first to a last one, as a term.
-fn term_of_piece<'a>(piece: (i64, i64)) -> Term<'a>
+fn term_of_piece<'a>(piece: (i64, i64)) -> PrintedTerm<'a>
     ensures { term_of result ≡ piece_term piece }
 {
     let (first, last) = piece;
     if first == i64::MIN && last == i64::MAX {
-        return Term::Integers;
+        return PrintedTerm::Integers;
     }
     if first == last {
-        return Term::Number(first);
+        return PrintedTerm::Number(first);
     }
     if first == i64::MIN {
-        return Term::AtMost(last);
+        return PrintedTerm::AtMost(last);
     }
     if last == i64::MAX {
-        return Term::AtLeast(first);
+        return PrintedTerm::AtLeast(first);
     }
-    Term::Between(first, last)
+    PrintedTerm::Between(first, last)
 }
 
 /// Adds the terms of a set of texts: of all but the listed ones, or of these.
-fn add_texts<'a>(terms: &mut Vec<Term<'a>>, all_but: bool, texts: &'a [Text]) -> Result<(), Memory>
+fn add_texts<'a>(
+    terms: &mut Vec<PrintedTerm<'a>>,
+    all_but: bool,
+    texts: &'a [Text],
+) -> Result<(), Memory>
     ensures { OnOk result (map term_of terms.new.items
         ≡ map term_of terms.old.items ++ text_terms (all_but, texts.now)) }
 {
@@ -85,20 +89,20 @@ fn add_texts<'a>(terms: &mut Vec<Term<'a>>, all_but: bool, texts: &'a [Text]) ->
         return add_listed(terms, texts);
     }
     if texts.is_empty() {
-        terms.push(Term::Texts)?;
+        terms.push(PrintedTerm::Texts)?;
     } else {
-        terms.push(Term::OtherTexts(texts))?;
+        terms.push(PrintedTerm::OtherTexts(texts))?;
     }
     Ok(())
 }
 
 /// Adds each text.
-fn add_listed<'a>(terms: &mut Vec<Term<'a>>, texts: &'a [Text]) -> Result<(), Memory>
+fn add_listed<'a>(terms: &mut Vec<PrintedTerm<'a>>, texts: &'a [Text]) -> Result<(), Memory>
     ensures { OnOk result (map term_of terms.new.items
         ≡ map term_of terms.old.items ++ map text texts.now) }
 {
     for text in texts {
-        terms.push(Term::Text(text))?;
+        terms.push(PrintedTerm::Text(text))?;
     }
     Ok(())
 }
@@ -108,11 +112,11 @@ fn add_listed<'a>(terms: &mut Vec<Term<'a>>, texts: &'a [Text]) -> Result<(), Me
 pub(crate) fn push_terms<S: TextSink>(
     scratch: &mut Scratch,
     out: &mut S,
-    terms: &[Term],
-) -> Result<(), S::Halt>
+    terms: &[PrintedTerm],
+) -> Result<(), S::SinkError>
     ensures told { OnOk result (Appends (S.taken out.old) (S.taken out.new)
         (terms_text (map term_of terms.now))) }
-    ensures begun { OnErr result (Begins (S.taken out.old) (S.taken out.new)
+    ensures begun { OnErr result (WritesPrefix (S.taken out.old) (S.taken out.new)
         (terms_text (map term_of terms.now))) }
 {
     if terms.is_empty() {
@@ -123,11 +127,15 @@ pub(crate) fn push_terms<S: TextSink>(
 }
 
 /// Writes terms with `|` between them.
-fn push_each<S: TextSink>(scratch: &mut Scratch, out: &mut S, terms: &[Term]) -> Result<(), S::Halt>
+fn push_each<S: TextSink>(
+    scratch: &mut Scratch,
+    out: &mut S,
+    terms: &[PrintedTerm],
+) -> Result<(), S::SinkError>
     ensures told { OnOk result (Appends (S.taken out.old) (S.taken out.new)
-        (joined (codes " | ") (map term_text (map term_of terms.now)))) }
-    ensures begun { OnErr result (Begins (S.taken out.old) (S.taken out.new)
-        (joined (codes " | ") (map term_text (map term_of terms.now)))) }
+        (join_texts (codes " | ") (map term_text (map term_of terms.now)))) }
+    ensures begun { OnErr result (WritesPrefix (S.taken out.old) (S.taken out.new)
+        (join_texts (codes " | ") (map term_text (map term_of terms.now)))) }
 {
     for (i, term) in terms.iter().enumerate() {
         separate(out, " | ", i == 0)?;
@@ -141,11 +149,11 @@ fn push_each<S: TextSink>(scratch: &mut Scratch, out: &mut S, terms: &[Term]) ->
 pub(crate) fn push_operand<S: TextSink>(
     scratch: &mut Scratch,
     out: &mut S,
-    terms: &[Term],
-) -> Result<(), S::Halt>
+    terms: &[PrintedTerm],
+) -> Result<(), S::SinkError>
     ensures told { OnOk result (Appends (S.taken out.old) (S.taken out.new)
         (operand_text (map term_of terms.now))) }
-    ensures begun { OnErr result (Begins (S.taken out.old) (S.taken out.new)
+    ensures begun { OnErr result (WritesPrefix (S.taken out.old) (S.taken out.new)
         (operand_text (map term_of terms.now))) }
 {
     if is_compound(terms) {
@@ -160,12 +168,12 @@ pub(crate) fn push_operand<S: TextSink>(
 fn push_enclosed<S: TextSink>(
     scratch: &mut Scratch,
     out: &mut S,
-    terms: &[Term],
-) -> Result<(), S::Halt>
+    terms: &[PrintedTerm],
+) -> Result<(), S::SinkError>
     ensures told { OnOk result (Appends (S.taken out.old) (S.taken out.new)
-        (enclosed (codes "(") (terms_text (map term_of terms.now)) (codes ")"))) }
-    ensures begun { OnErr result (Begins (S.taken out.old) (S.taken out.new)
-        (enclosed (codes "(") (terms_text (map term_of terms.now)) (codes ")"))) }
+        (enclose_text (codes "(") (terms_text (map term_of terms.now)) (codes ")"))) }
+    ensures begun { OnErr result (WritesPrefix (S.taken out.old) (S.taken out.new)
+        (enclose_text (codes "(") (terms_text (map term_of terms.now)) (codes ")"))) }
 {
     out.put("(")?;
     push_terms(scratch, out, terms)?;
@@ -174,7 +182,7 @@ fn push_enclosed<S: TextSink>(
 }
 
 /// Whether a disjunction is more than one operand.
-fn is_compound(terms: &[Term]) -> bool
+fn is_compound(terms: &[PrintedTerm]) -> bool
     ensures { result ≡ is_compound (map term_of terms.now) }
 {
     match terms {

@@ -2,17 +2,17 @@
 ghost use Rattle.std.specs.Prelude.{◌≡◌, ◌++◌, ◌||◌, is_some, nat_lt, codes, OnErr, OnOk};
 ghost use Rattle.std.specs.Io.KnownBytes.{Appends};
 ghost use Rattle.std.specs.Option.{option_map};
-ghost use Rattle.cue_device.specs.Texts.{Begins};
-ghost use Rattle.cue_table.specs.Tree.{below, rest_of, row_of};
-ghost use Rattle.cue_row.specs.Quoted.{quoted};
-ghost use Rattle.cue_print.specs.Spelled.{joined, mark_text, value_text, field_texts};
+ghost use Rattle.cue_device.specs.Texts.{WritesPrefix};
+ghost use Rattle.cue_table.specs.Tree.{below, rest_below, row_of};
+ghost use Rattle.cue_row.specs.Quoted.{quote_text};
+ghost use Rattle.cue_print.specs.Spelled.{join_texts, mark_text, value_text, field_texts};
 ghost use Rattle.cue_print.specs.Spelled.{element_texts, struct_text};
-ghost use Rattle.cue_print.specs.Printed.{elements, inside, has_field, level_at};
+ghost use Rattle.cue_print.specs.Printed.{elements, fields_of_labels, has_field, level_at};
 ghost use Rattle.cue_print.specs.Printed.{value_of, fields_below, rest_value};
 ghost use Rattle.cue_print.specs.Inner.Writing.{fields_at, element_of, further_at};
-ghost use Rattle.cue_print.specs.Inner.Writing.{beside_text, struct_before, opening, closing};
+ghost use Rattle.cue_print.specs.Inner.Writing.{beside_text, struct_before, field_opening, fields_closing};
 ghost use Rattle.cue_print.specs.Inner.Writing.{is_exact};
-ghost use Rattle.cue_print.specs.Inner.Writing.{ending_text, list_before, told_text, lead};
+ghost use Rattle.cue_print.specs.Inner.Writing.{ending_text, list_before, rest_value_text, separator_before};
 ghost use Rattle.cue_print.specs.Inner.Writing.{closed_text, declared_text, written_struct};
 ghost use Rattle.cue_print.specs.Inner.Writing.{written_list};
 ghost use Rattle.cue_print.specs.Inner.Writing.{written_nothing};
@@ -31,10 +31,10 @@ pub(crate) fn push_value<S: TextSink>(
     scratch: &mut Scratch,
     out: &mut S,
     branch: &Branch<Row>,
-) -> Result<(), S::Halt>
+) -> Result<(), S::SinkError>
     ensures told { OnOk result (Appends (S.taken out.old) (S.taken out.new)
         (value_text (value_of branch.now))) }
-    ensures begun { OnErr result (Begins (S.taken out.old) (S.taken out.new)
+    ensures begun { OnErr result (WritesPrefix (S.taken out.old) (S.taken out.new)
         (value_text (value_of branch.now))) }
 {
     let Some(row) = branch.row() else {
@@ -62,10 +62,10 @@ fn push_nothing<S: TextSink>(
     out: &mut S,
     row: &Row,
     branch: &Branch<Row>,
-) -> Result<(), S::Halt>
+) -> Result<(), S::SinkError>
     ensures told { OnOk result (Appends (S.taken out.old) (S.taken out.new)
         (written_nothing row.now branch.now)) }
-    ensures begun { OnErr result (Begins (S.taken out.old) (S.taken out.new)
+    ensures begun { OnErr result (WritesPrefix (S.taken out.old) (S.taken out.new)
         (written_nothing row.now branch.now)) }
 {
     push_struct_before(scratch, out, row, branch)?;
@@ -82,10 +82,10 @@ fn push_struct_before<S: TextSink>(
     out: &mut S,
     row: &Row,
     branch: &Branch<Row>,
-) -> Result<(), S::Halt>
+) -> Result<(), S::SinkError>
     ensures told { OnOk result (Appends (S.taken out.old) (S.taken out.new)
         (struct_before row.now (fields_at branch.now))) }
-    ensures begun { OnErr result (Begins (S.taken out.old) (S.taken out.new)
+    ensures begun { OnErr result (WritesPrefix (S.taken out.old) (S.taken out.new)
         (struct_before row.now (fields_at branch.now))) }
 {
     if has_struct_part(row, branch) {
@@ -103,10 +103,10 @@ fn push_struct_in_front<S: TextSink>(
     out: &mut S,
     row: &Row,
     branch: &Branch<Row>,
-) -> Result<(), S::Halt>
+) -> Result<(), S::SinkError>
     ensures told { OnOk result (Appends (S.taken out.old) (S.taken out.new)
         (written_struct row.now.labels (fields_at branch.now) ++ codes " & ")) }
-    ensures begun { OnErr result (Begins (S.taken out.old) (S.taken out.new)
+    ensures begun { OnErr result (WritesPrefix (S.taken out.old) (S.taken out.new)
         (written_struct row.now.labels (fields_at branch.now) ++ codes " & ")) }
 {
     push_struct(scratch, out, row, branch)?;
@@ -132,10 +132,10 @@ fn push_list_before<S: TextSink>(
     out: &mut S,
     row: &Row,
     branch: &Branch<Row>,
-) -> Result<(), S::Halt>
+) -> Result<(), S::SinkError>
     ensures told { OnOk result (Appends (S.taken out.old) (S.taken out.new)
         (list_before row.now (element_of branch.now) (further_at branch.now))) }
-    ensures begun { OnErr result (Begins (S.taken out.old) (S.taken out.new)
+    ensures begun { OnErr result (WritesPrefix (S.taken out.old) (S.taken out.new)
         (list_before row.now (element_of branch.now) (further_at branch.now))) }
 {
     if has_list_part(row, branch) {
@@ -153,11 +153,11 @@ fn push_list_in_front<S: TextSink>(
     out: &mut S,
     row: &Row,
     branch: &Branch<Row>,
-) -> Result<(), S::Halt>
+) -> Result<(), S::SinkError>
     ensures told { OnOk result (Appends (S.taken out.old) (S.taken out.new)
         (written_list row.now.least row.now.most (element_of branch.now)
         (further_at branch.now) ++ codes " & ")) }
-    ensures begun { OnErr result (Begins (S.taken out.old) (S.taken out.new)
+    ensures begun { OnErr result (WritesPrefix (S.taken out.old) (S.taken out.new)
         (written_list row.now.least row.now.most (element_of branch.now)
         (further_at branch.now) ++ codes " & ")) }
 {
@@ -169,14 +169,14 @@ fn push_list_in_front<S: TextSink>(
 /// Whether lengths are left out at a place, or something is said of further elements.
 fn has_list_part(row: &Row, branch: &Branch<Row>) -> bool
     ensures { result ≡ (nat_lt 0 row.now.least || is_some row.now.most
-        || is_some (rest_value (rest_of branch.now))) }
+        || is_some (rest_value (rest_below branch.now))) }
 {
-    row.least() > 0 || row.most().is_some() || is_told(branch)
+    row.least() > 0 || row.most().is_some() || has_rest(branch)
 }
 
 /// Whether something is said of the further elements of a place.
-fn is_told(branch: &Branch<Row>) -> bool
-    ensures { result ≡ is_some (rest_value (rest_of branch.now)) }
+fn has_rest(branch: &Branch<Row>) -> bool
+    ensures { result ≡ is_some (rest_value (rest_below branch.now)) }
 {
     branch.rest().is_some()
 }
@@ -200,10 +200,10 @@ fn push_struct<S: TextSink>(
     out: &mut S,
     row: &Row,
     branch: &Branch<Row>,
-) -> Result<(), S::Halt>
+) -> Result<(), S::SinkError>
     ensures told { OnOk result (Appends (S.taken out.old) (S.taken out.new)
         (written_struct row.now.labels (fields_at branch.now))) }
-    ensures begun { OnErr result (Begins (S.taken out.old) (S.taken out.new)
+    ensures begun { OnErr result (WritesPrefix (S.taken out.old) (S.taken out.new)
         (written_struct row.now.labels (fields_at branch.now))) }
 {
     match row.labels() {
@@ -219,10 +219,10 @@ fn push_open_struct<S: TextSink>(
     scratch: &mut Scratch,
     out: &mut S,
     branch: &Branch<Row>,
-) -> Result<(), S::Halt>
+) -> Result<(), S::SinkError>
     ensures told { OnOk result (Appends (S.taken out.old) (S.taken out.new)
         (struct_text (field_texts (fields_at branch.now)))) }
-    ensures begun { OnErr result (Begins (S.taken out.old) (S.taken out.new)
+    ensures begun { OnErr result (WritesPrefix (S.taken out.old) (S.taken out.new)
         (struct_text (field_texts (fields_at branch.now)))) }
 {
     out.put("{")?;
@@ -240,10 +240,10 @@ fn push_closed_struct<S: TextSink>(
     row: &Row,
     labels: &[Text],
     branch: &Branch<Row>,
-) -> Result<(), S::Halt>
+) -> Result<(), S::SinkError>
     ensures told { OnOk result (Appends (S.taken out.old) (S.taken out.new)
         (closed_text labels.now row.now.labels (fields_at branch.now))) }
-    ensures begun { OnErr result (Begins (S.taken out.old) (S.taken out.new)
+    ensures begun { OnErr result (WritesPrefix (S.taken out.old) (S.taken out.new)
         (closed_text labels.now row.now.labels (fields_at branch.now))) }
 {
     out.put("close({")?;
@@ -259,11 +259,11 @@ fn push_fields<S: TextSink>(
     scratch: &mut Scratch,
     out: &mut S,
     branch: &Branch<Row>,
-) -> Result<(), S::Halt>
+) -> Result<(), S::SinkError>
     ensures told { OnOk result (Appends (S.taken out.old) (S.taken out.new)
-        (joined (codes ", ") (field_texts (fields_at branch.now)))) }
-    ensures begun { OnErr result (Begins (S.taken out.old) (S.taken out.new)
-        (joined (codes ", ") (field_texts (fields_at branch.now)))) }
+        (join_texts (codes ", ") (field_texts (fields_at branch.now)))) }
+    ensures begun { OnErr result (WritesPrefix (S.taken out.old) (S.taken out.new)
+        (join_texts (codes ", ") (field_texts (fields_at branch.now)))) }
 {
     let mut is_first = true;
     for (label, field) in branch.labels() {
@@ -281,11 +281,11 @@ fn push_inside<S: TextSink>(
     out: &mut S,
     labels: &[Text],
     branch: &Branch<Row>,
-) -> Result<(), S::Halt>
+) -> Result<(), S::SinkError>
     ensures told { OnOk result (Appends (S.taken out.old) (S.taken out.new)
-        (joined (codes ", ") (field_texts (inside labels.now (fields_at branch.now))))) }
-    ensures begun { OnErr result (Begins (S.taken out.old) (S.taken out.new)
-        (joined (codes ", ") (field_texts (inside labels.now (fields_at branch.now))))) }
+        (join_texts (codes ", ") (field_texts (fields_of_labels labels.now (fields_at branch.now))))) }
+    ensures begun { OnErr result (WritesPrefix (S.taken out.old) (S.taken out.new)
+        (join_texts (codes ", ") (field_texts (fields_of_labels labels.now (fields_at branch.now))))) }
 {
     for (i, label) in labels.iter().enumerate() {
         separate(out, ", ", i == 0)?;
@@ -301,10 +301,10 @@ fn push_declared<S: TextSink>(
     out: &mut S,
     label: &Text,
     branch: &Branch<Row>,
-) -> Result<(), S::Halt>
+) -> Result<(), S::SinkError>
     ensures told { OnOk result (Appends (S.taken out.old) (S.taken out.new)
         (declared_text label.now branch.now)) }
-    ensures begun { OnErr result (Begins (S.taken out.old) (S.taken out.new)
+    ensures begun { OnErr result (WritesPrefix (S.taken out.old) (S.taken out.new)
         (declared_text label.now branch.now)) }
 {
     let step = Step::Label(label.copy(scratch.alloc)?);
@@ -321,10 +321,10 @@ fn push_outside<S: TextSink>(
     out: &mut S,
     row: &Row,
     branch: &Branch<Row>,
-) -> Result<(), S::Halt>
+) -> Result<(), S::SinkError>
     ensures told { OnOk result (Appends (S.taken out.old) (S.taken out.new)
         (beside_text row.now.labels (fields_at branch.now))) }
-    ensures begun { OnErr result (Begins (S.taken out.old) (S.taken out.new)
+    ensures begun { OnErr result (WritesPrefix (S.taken out.old) (S.taken out.new)
         (beside_text row.now.labels (fields_at branch.now))) }
 {
     let mut is_first = true;
@@ -341,11 +341,11 @@ fn push_outside<S: TextSink>(
 
 /// Writes what stands behind the fields whose labels may not stand, where there are any.
 #[tactic(auto, using(crate::proofs::Turns::one_or_none))]
-fn push_closing<S: TextSink>(out: &mut S, is_first: bool) -> Result<(), S::Halt>
+fn push_closing<S: TextSink>(out: &mut S, is_first: bool) -> Result<(), S::SinkError>
     ensures told { OnOk result (Appends (S.taken out.old) (S.taken out.new)
-        (closing is_first)) }
-    ensures begun { OnErr result (Begins (S.taken out.old) (S.taken out.new)
-        (closing is_first)) }
+        (fields_closing is_first)) }
+    ensures begun { OnErr result (WritesPrefix (S.taken out.old) (S.taken out.new)
+        (fields_closing is_first)) }
 {
     if !is_first {
         out.put("}")?;
@@ -354,11 +354,11 @@ fn push_closing<S: TextSink>(out: &mut S, is_first: bool) -> Result<(), S::Halt>
 }
 
 /// Writes what stands before a field whose label may not stand.
-fn push_opening<S: TextSink>(out: &mut S, is_first: bool) -> Result<(), S::Halt>
+fn push_opening<S: TextSink>(out: &mut S, is_first: bool) -> Result<(), S::SinkError>
     ensures told { OnOk result (Appends (S.taken out.old) (S.taken out.new)
-        (opening is_first)) }
-    ensures begun { OnErr result (Begins (S.taken out.old) (S.taken out.new)
-        (opening is_first)) }
+        (field_opening is_first)) }
+    ensures begun { OnErr result (WritesPrefix (S.taken out.old) (S.taken out.new)
+        (field_opening is_first)) }
 {
     if is_first {
         out.put(" & {")?;
@@ -376,12 +376,12 @@ pub(crate) fn push_field<S: TextSink>(
     out: &mut S,
     label: &str,
     field: &Branch<Row>,
-) -> Result<(), S::Halt>
+) -> Result<(), S::SinkError>
     ensures told { OnOk result (Appends (S.taken out.old) (S.taken out.new)
-        (quoted label.now
+        (quote_text label.now
         ++ (mark_text (level_at (row_of field.now)) ++ value_text (value_of field.now)))) }
-    ensures begun { OnErr result (Begins (S.taken out.old) (S.taken out.new)
-        (quoted label.now
+    ensures begun { OnErr result (WritesPrefix (S.taken out.old) (S.taken out.new)
+        (quote_text label.now
         ++ (mark_text (level_at (row_of field.now)) ++ value_text (value_of field.now)))) }
 {
     push_text(scratch, out, label)?;
@@ -401,10 +401,10 @@ fn level_of(row: Option<&Row>) -> Level
 }
 
 /// Writes what marks the label of a level.
-fn push_mark<S: TextSink>(out: &mut S, level: Level) -> Result<(), S::Halt>
+fn push_mark<S: TextSink>(out: &mut S, level: Level) -> Result<(), S::SinkError>
     ensures told { OnOk result (Appends (S.taken out.old) (S.taken out.new)
         (mark_text level)) }
-    ensures begun { OnErr result (Begins (S.taken out.old) (S.taken out.new)
+    ensures begun { OnErr result (WritesPrefix (S.taken out.old) (S.taken out.new)
         (mark_text level)) }
 {
     out.put(match level {
@@ -423,11 +423,11 @@ fn push_list<S: TextSink>(
     out: &mut S,
     row: &Row,
     branch: &Branch<Row>,
-) -> Result<(), S::Halt>
+) -> Result<(), S::SinkError>
     ensures told { OnOk result (Appends (S.taken out.old) (S.taken out.new)
         (written_list row.now.least row.now.most (element_of branch.now)
         (further_at branch.now))) }
-    ensures begun { OnErr result (Begins (S.taken out.old) (S.taken out.new)
+    ensures begun { OnErr result (WritesPrefix (S.taken out.old) (S.taken out.new)
         (written_list row.now.least row.now.most (element_of branch.now)
         (further_at branch.now))) }
 {
@@ -443,11 +443,11 @@ fn push_list<S: TextSink>(
 /// Whether the elements alone tell a list: it has one length, and nothing is said of further
 /// elements.
 fn is_exact(row: &Row, branch: &Branch<Row>) -> bool
-    ensures { result ≡ is_exact row.now.least row.now.most (rest_value (rest_of branch.now)) }
+    ensures { result ≡ is_exact row.now.least row.now.most (rest_value (rest_below branch.now)) }
 {
     match row.most() {
         None => false,
-        Some(most) => row.least() == most && !is_told(branch),
+        Some(most) => row.least() == most && !has_rest(branch),
     }
 }
 
@@ -460,10 +460,10 @@ fn push_ending<S: TextSink>(
     count: u32,
     is_exact: bool,
     branch: &Branch<Row>,
-) -> Result<(), S::Halt>
+) -> Result<(), S::SinkError>
     ensures told { OnOk result (Appends (S.taken out.old) (S.taken out.new)
         (ending_text count is_exact (further_at branch.now))) }
-    ensures begun { OnErr result (Begins (S.taken out.old) (S.taken out.new)
+    ensures begun { OnErr result (WritesPrefix (S.taken out.old) (S.taken out.new)
         (ending_text count is_exact (further_at branch.now))) }
 {
     if is_exact {
@@ -481,29 +481,29 @@ fn push_dots<S: TextSink>(
     out: &mut S,
     is_first: bool,
     branch: &Branch<Row>,
-) -> Result<(), S::Halt>
+) -> Result<(), S::SinkError>
     ensures told { OnOk result (Appends (S.taken out.old) (S.taken out.new)
-        (lead (codes ", ") is_first ++ (codes "..." ++ told_text (further_at branch.now)))) }
-    ensures begun { OnErr result (Begins (S.taken out.old) (S.taken out.new)
-        (lead (codes ", ") is_first ++ (codes "..." ++ told_text (further_at branch.now)))) }
+        (separator_before (codes ", ") is_first ++ (codes "..." ++ rest_value_text (further_at branch.now)))) }
+    ensures begun { OnErr result (WritesPrefix (S.taken out.old) (S.taken out.new)
+        (separator_before (codes ", ") is_first ++ (codes "..." ++ rest_value_text (further_at branch.now)))) }
 {
     separate(out, ", ", is_first)?;
     out.put("...")?;
-    push_told(scratch, out, branch)?;
+    push_rest(scratch, out, branch)?;
     Ok(())
 }
 
 /// Writes what each further element is, where something is said of it.
 #[cycle(walk)]
-fn push_told<S: TextSink>(
+fn push_rest<S: TextSink>(
     scratch: &mut Scratch,
     out: &mut S,
     branch: &Branch<Row>,
-) -> Result<(), S::Halt>
+) -> Result<(), S::SinkError>
     ensures told { OnOk result (Appends (S.taken out.old) (S.taken out.new)
-        (told_text (further_at branch.now))) }
-    ensures begun { OnErr result (Begins (S.taken out.old) (S.taken out.new)
-        (told_text (further_at branch.now))) }
+        (rest_value_text (further_at branch.now))) }
+    ensures begun { OnErr result (WritesPrefix (S.taken out.old) (S.taken out.new)
+        (rest_value_text (further_at branch.now))) }
 {
     match branch.rest() {
         None => Ok(()),
@@ -518,11 +518,11 @@ fn push_elements<S: TextSink>(
     out: &mut S,
     count: u32,
     branch: &Branch<Row>,
-) -> Result<(), S::Halt>
+) -> Result<(), S::SinkError>
     ensures told { OnOk result (Appends (S.taken out.old) (S.taken out.new)
-        (joined (codes ", ") (element_texts (elements count (element_of branch.now))))) }
-    ensures begun { OnErr result (Begins (S.taken out.old) (S.taken out.new)
-        (joined (codes ", ") (element_texts (elements count (element_of branch.now))))) }
+        (join_texts (codes ", ") (element_texts (elements count (element_of branch.now))))) }
+    ensures begun { OnErr result (WritesPrefix (S.taken out.old) (S.taken out.new)
+        (join_texts (codes ", ") (element_texts (elements count (element_of branch.now))))) }
 {
     for number in 0..count {
         separate(out, ", ", number == 0)?;
@@ -538,10 +538,10 @@ fn push_element<S: TextSink>(
     out: &mut S,
     number: u32,
     branch: &Branch<Row>,
-) -> Result<(), S::Halt>
+) -> Result<(), S::SinkError>
     ensures told { OnOk result (Appends (S.taken out.old) (S.taken out.new)
         (value_text (element_of branch.now number))) }
-    ensures begun { OnErr result (Begins (S.taken out.old) (S.taken out.new)
+    ensures begun { OnErr result (WritesPrefix (S.taken out.old) (S.taken out.new)
         (value_text (element_of branch.now number))) }
 {
     match branch.find(&Step::Index(number)) {

@@ -1,9 +1,9 @@
 ghost use Rattle.std.specs.Prelude.{◌≡◌, OnErr, OnOk};
 ghost use Rattle.std.specs.Fmt.{signed_decimal};
 ghost use Rattle.std.specs.Io.KnownBytes.{Appends};
-ghost use Rattle.cue_device.specs.Texts.{Begins};
-ghost use Rattle.cue_row.specs.Quoted.{quoted};
-ghost use Rattle.cue_print.specs.Inner.Writing.{lead};
+ghost use Rattle.cue_device.specs.Texts.{WritesPrefix};
+ghost use Rattle.cue_row.specs.Quoted.{quote_text};
+ghost use Rattle.cue_print.specs.Inner.Writing.{separator_before};
 
 use cue_device::TextSink;
 use cue_row::push_quoted;
@@ -34,9 +34,9 @@ pub(crate) fn push_text<S: TextSink>(
     scratch: &mut Scratch,
     out: &mut S,
     text: &str,
-) -> Result<(), S::Halt>
-    ensures told { OnOk result (Appends (S.taken out.old) (S.taken out.new) (quoted text.now)) }
-    ensures begun { OnErr result (Begins (S.taken out.old) (S.taken out.new) (quoted text.now)) }
+) -> Result<(), S::SinkError>
+    ensures told { OnOk result (Appends (S.taken out.old) (S.taken out.new) (quote_text text.now)) }
+    ensures begun { OnErr result (WritesPrefix (S.taken out.old) (S.taken out.new) (quote_text text.now)) }
 {
     scratch.text.clear();
     push_quoted(&mut scratch.text, text)?;
@@ -50,11 +50,11 @@ pub(crate) fn separate<S: TextSink>(
     out: &mut S,
     separator: &str,
     is_first: bool,
-) -> Result<(), S::Halt>
+) -> Result<(), S::SinkError>
     ensures told { OnOk result (Appends (S.taken out.old) (S.taken out.new)
-        (lead separator.now is_first)) }
-    ensures begun { OnErr result (Begins (S.taken out.old) (S.taken out.new)
-        (lead separator.now is_first)) }
+        (separator_before separator.now is_first)) }
+    ensures begun { OnErr result (WritesPrefix (S.taken out.old) (S.taken out.new)
+        (separator_before separator.now is_first)) }
 {
     if !is_first {
         out.put(separator)?;
@@ -63,10 +63,10 @@ pub(crate) fn separate<S: TextSink>(
 }
 
 /// Writes an integer in decimal digits, with a sign where it is negative.
-pub(crate) fn push_integer<S: TextSink>(out: &mut S, integer: i64) -> Result<(), S::Halt>
+pub(crate) fn push_integer<S: TextSink>(out: &mut S, integer: i64) -> Result<(), S::SinkError>
     ensures told { OnOk result (Appends (S.taken out.old) (S.taken out.new)
         (signed_decimal integer)) }
-    ensures begun { OnErr result (Begins (S.taken out.old) (S.taken out.new)
+    ensures begun { OnErr result (WritesPrefix (S.taken out.old) (S.taken out.new)
         (signed_decimal integer)) }
 {
     let mut buffer = Buffer::new();

@@ -4,8 +4,8 @@ use Rattle.std.specs.List.{AllByRecursion}
 use Rattle.std.proofs.lemmas.List.{append_assoc, append-nil}
 use Rattle.cue_lattice.specs.World.{Piece, text, piece_refuses}
 use Rattle.cue_replica.specs.Accepted.{IsAcceptable, IsOfPieces, IsOfTexts}
-use Rattle.cue_replica.specs.Language.{Table, language, opening}
-use Rattle.cue_replica.specs.Replica.{Adds}
+use Rattle.cue_replica.specs.Language.{Table, language, empty_site}
+use Rattle.cue_replica.specs.Replica.{AddsRefusals}
 use Rattle.cue_replica.proofs.Accepted.{of_no_piece, of_one_piece_more}
 use Rattle.cue_replica.proofs.Adding.{unified_more}
 use Rattle.cue_program.specs.inner.Gathered.{HaveTaken}
@@ -31,7 +31,7 @@ pub of_texts : (site : Table) (texts : List (List ℕ)) → IsOfPieces site (map
 of_texts site texts h = (all_texts_legal texts h.0, h.1)
 
 -- two new sites have taken nothing
-pub none_taken : (site batch : Table) → site ≡ opening → batch ≡ opening → HaveTaken site batch []
+pub none_taken : (site batch : Table) → site ≡ empty_site → batch ≡ empty_site → HaveTaken site batch []
 none_taken site batch is also = (
   [],
   [],
@@ -43,7 +43,7 @@ none_taken site batch is also = (
 -- the batch has taken one piece more
 pub one_more_taken :
     (site batch new : Table) (pieces : List Piece) (more : Piece) → HaveTaken site batch pieces → IsAcceptable more
-    → Adds batch (piece_refuses language more) new → language.IsValid new → HaveTaken site new (pieces ++ more ∷ [])
+    → AddsRefusals batch (piece_refuses language more) new → language.IsValid new → HaveTaken site new (pieces ++ more ∷ [])
 one_more_taken site batch new pieces more h acceptable adds valid = (
   h.0,
   h.1 ++ more ∷ [],
@@ -54,7 +54,7 @@ one_more_taken site batch new pieces more h acceptable adds valid = (
 
 -- a site that adds what the batch refuses has taken all pieces
 pub all_taken :
-    (site batch new : Table) (pieces : List Piece) → HaveTaken site batch pieces → Adds site (language.table_refuses batch) new
+    (site batch new : Table) (pieces : List Piece) → HaveTaken site batch pieces → AddsRefusals site (language.table_refuses batch) new
     → language.IsValid new → IsOfPieces new pieces
 all_taken site batch new pieces h adds valid = subst (IsOfPieces new) (sym h.2) (
   acceptable_together h.0 h.1 h.3.0 h.4.0,
@@ -62,7 +62,7 @@ all_taken site batch new pieces h adds valid = subst (IsOfPieces new) (sym h.2) 
 )
 
 -- and a new batch none
-pub all_in_front : (site batch : Table) (pieces : List Piece) → IsOfPieces site pieces → batch ≡ opening → HaveTaken site batch pieces
+pub all_in_front : (site batch : Table) (pieces : List Piece) → IsOfPieces site pieces → batch ≡ empty_site → HaveTaken site batch pieces
 all_in_front site batch pieces h new = (
   pieces,
   [],

@@ -4,12 +4,12 @@ use Rattle.std.proofs.lemmas.List.{append_assoc}
 use Rattle.std.specs.Str.{bytes_eq}
 use Rattle.std.proofs.lemmas.Slice.Eq.{bytes_eq-Decides}
 use Rattle.std.proofs.lemmas.Bool.{both_ways}
-use Rattle.cue_program.specs.Calls.{Call, beside, Creates, Fills, Overwrites, PutsAt, PutsBehind, Replaces, TakesMode, Tries, WritesIn, opened, created, looked_at, looked_behind, followed, asked_mode, set_mode, wrote, synced, renamed, removed}
-use Rattle.cue_program.specs.Effects.{ArePut, DoesAsTold, HasMoved, IsLonger, IsTouchedAt, Stays, is_special_behind}
-use Rattle.cue_program.specs.Files.{Holdings, IsElsewhereSame, IsPut, IsSameAt, IsSameTree, IsUnharmed}
-use Rattle.cue_program.specs.Stopped.{StopsAt, StopsBehind, StopsFilling, StopsOverwriting, StopsPutting, StopsReplacing, Touches, TouchesIn}
-use Rattle.cue_program.specs.declared.shelf.Form.{Form}
-use Rattle.cue_program.specs.declared.shelf.Form.TheVariants as forms
+use Rattle.cue_program.specs.Calls.{FileCall, names_beside, Creates, FillsFile, Overwrites, PutsAt, PutsBehind, ReplacesFile, TakesMode, TriesNames, WritesIn, opened, created, looked_at, looked_behind, followed, asked_mode, set_mode, wrote, synced, renamed, removed}
+use Rattle.cue_program.specs.Effects.{ArePut, CallsHaveEffects, HasMoved, IsLonger, IsTouchedAt, IsUnchanged, is_special_behind}
+use Rattle.cue_program.specs.Files.{Holdings, IsElsewhereSame, IsFilePut, IsSameAt, IsSameTree, IsUnharmed}
+use Rattle.cue_program.specs.Stopped.{StopsAtCall, StopsBehind, StopsFilling, StopsOverwriting, StopsPutting, StopsReplacing, Touches, TouchesIn}
+use Rattle.cue_program.specs.declared.files.FileForm.{FileForm}
+use Rattle.cue_program.specs.declared.files.FileForm.TheVariants as forms
 
 tree_none : (x : Holdings) → IsSameTree x x
 tree_none x = record { places = λ name. refl; special = λ place. refl }
@@ -42,18 +42,18 @@ else_none P x = record { tree = tree_none x; others = λ p no. same_none p x }
 weaker : (P Q : List ℕ → Type 0) (x y : Holdings) → ((p : List ℕ) → P p → Q p) → IsElsewhereSame P x y → IsElsewhereSame Q x y
 weaker P Q x y f h = record { tree = h.tree; others = λ p no. h.others p (λ is. no (f p is)) }
 
-touched : (p : List ℕ) (x y : Holdings) → Stays x y → IsTouchedAt p x y
+touched : (p : List ℕ) (x y : Holdings) → IsUnchanged x y → IsTouchedAt p x y
 touched p x y h = weaker (λ q. ⊥) (λ q. q ≡ p) x y (λ q no. absurd no) h
 
-stays_at : (x y : Holdings) (p : List ℕ) → Stays x y → IsSameAt p x y
+stays_at : (x y : Holdings) (p : List ℕ) → IsUnchanged x y → IsSameAt p x y
 stays_at x y p h = h.others p (λ no. no)
 
-tries_stay : {S D M : Type 0} (Makes : S → Call D M → S → Type 0) (held : S → Holdings) (at : D → List ℕ) (mode : M → ℕ) → DoesAsTold Makes held at mode
-    → (place : List ℕ) (n : ℕ) (a b : S) → Tries Makes place n a b → Stays (held a) (held b)
-unfolding Tries
-tries_stay Makes held at mode f place zero a b is = subst (λ s. Stays (held a) (held s)) (sym is) (else_none (λ p. ⊥) (held a))
+tries_stay : {S D M : Type 0} (Makes : S → FileCall D M → S → Type 0) (held : S → Holdings) (at : D → List ℕ) (mode : M → ℕ) → CallsHaveEffects Makes held at mode
+    → (place : List ℕ) (n : ℕ) (a b : S) → TriesNames Makes place n a b → IsUnchanged (held a) (held b)
+unfolding TriesNames
+tries_stay Makes held at mode f place zero a b is = subst (λ s. IsUnchanged (held a) (held s)) (sym is) (else_none (λ p. ⊥) (held a))
 tries_stay Makes held at mode f place (suc n) a b is =
-    else_on (λ p. ⊥) (held a) (held is.0) (held b) (tries_stay Makes held at mode f place n a is.0 is.1) (f is.0 b (created (beside (suc n) place) None) is.2)
+    else_on (λ p. ⊥) (held a) (held is.0) (held b) (tries_stay Makes held at mode f place n a is.0 is.1) (f is.0 b (created (names_beside (suc n) place) None) is.2)
 
 longer_none : (p : List ℕ) (x : Holdings) → IsLonger p [] x x
 longer_none p x = record {
@@ -69,7 +69,7 @@ longer_on p front piece x y z h k = record {
   mode = k.mode ∙ h.mode;
 }
 
-writes_add : {S D M : Type 0} (Makes : S → Call D M → S → Type 0) (held : S → Holdings) (at : D → List ℕ) (mode : M → ℕ) → DoesAsTold Makes held at mode
+writes_add : {S D M : Type 0} (Makes : S → FileCall D M → S → Type 0) (held : S → Holdings) (at : D → List ℕ) (mode : M → ℕ) → CallsHaveEffects Makes held at mode
     → (n : ℕ) (bytes : List ℕ) (file file' : D) (a b : S) → WritesIn Makes n bytes file file' a b → IsLonger (at file) bytes (held a) (held b) × (at file' ≡ at file)
 unfolding WritesIn
 writes_add Makes held at mode f zero bytes file file' a b is = (
@@ -98,7 +98,7 @@ record Moded (p place : List ℕ) (is_file : Bool) (x y : Holdings) : Type 0 whe
   bytes_are : y.bytes_at p ≡ x.bytes_at p
   mode : is_file ≡ true → y.mode_at p ≡ x.mode_at (x.place_of place)
 
-mode_taken : {S D M : Type 0} (Makes : S → Call D M → S → Type 0) (held : S → Holdings) (at : D → List ℕ) (mode : M → ℕ) → DoesAsTold Makes held at mode
+mode_taken : {S D M : Type 0} (Makes : S → FileCall D M → S → Type 0) (held : S → Holdings) (at : D → List ℕ) (mode : M → ℕ) → CallsHaveEffects Makes held at mode
     → (place : List ℕ) (is_file : Bool) (file : D) (a b : S) → TakesMode Makes place is_file file a b → Moded (at file) place is_file (held a) (held b)
 mode_taken Makes held at mode f place true file a b is =
     let asked = f a is.1 (asked_mode place (Some is.0)) is.2 in
@@ -115,8 +115,8 @@ mode_taken Makes held at mode f place false file a b is =
       mode = λ yes. (let no : false ≡ true = yes in cc);
     })
 
-filled_by : {S D M : Type 0} (Makes : S → Call D M → S → Type 0) (held : S → Holdings) (at : D → List ℕ) (mode : M → ℕ) → DoesAsTold Makes held at mode
-    → (place bytes : List ℕ) (is_file : Bool) (file : D) (a b : S) → Fills Makes place is_file bytes file a b → Filled (at file) place bytes is_file (held a) (held b)
+filled_by : {S D M : Type 0} (Makes : S → FileCall D M → S → Type 0) (held : S → Holdings) (at : D → List ℕ) (mode : M → ℕ) → CallsHaveEffects Makes held at mode
+    → (place bytes : List ℕ) (is_file : Bool) (file : D) (a b : S) → FillsFile Makes place is_file bytes file a b → Filled (at file) place bytes is_file (held a) (held b)
 filled_by Makes held at mode f place bytes is_file file a b is =
     let p = at file in
     let x = held a in
@@ -139,15 +139,15 @@ same_or_not a b = go (bytes_eq a b) refl
     go true e = inl ((bytes_eq-Decides a b).0 e)
     go false e = inr (λ is. both_ways (bytes_eq a b) e ((bytes_eq-Decides a b).1 is))
 
-beside_longer : (n : ℕ) (place : List ℕ) → length place ≤ length (beside n place)
-unfolding beside
+beside_longer : (n : ℕ) (place : List ℕ) → length place ≤ length (names_beside n place)
+unfolding names_beside
 beside_longer zero place = omega arith
-beside_longer (suc n) place = omega (arith, beside_longer n place, length-append (beside n place) (codes ".part"))
+beside_longer (suc n) place = omega (arith, beside_longer n place, length-append (names_beside n place) (codes ".part"))
 
-beside_other : (n : ℕ) (place draft : List ℕ) → draft ≡ beside (suc n) place → draft ≢ place
-unfolding beside
+beside_other : (n : ℕ) (place draft : List ℕ) → draft ≡ names_beside (suc n) place → draft ≢ place
+unfolding names_beside
 beside_other n place draft is same =
-    absurd (omega (arith, beside_longer n place, length-append (beside n place) (codes ".part"), ap length is, ap length same))
+    absurd (omega (arith, beside_longer n place, length-append (names_beside n place) (codes ".part"), ap length is, ap length same))
 
 -- a new file was made beside a place
 record Made (place draft : List ℕ) (x y : Holdings) : Type 0 where
@@ -156,7 +156,7 @@ record Made (place draft : List ℕ) (x y : Holdings) : Type 0 where
   free : x.bytes_at draft ≡ None
   empty : y.bytes_at draft ≡ Some []
 
-made_by : {S D M : Type 0} (Makes : S → Call D M → S → Type 0) (held : S → Holdings) (at : D → List ℕ) (mode : M → ℕ) → DoesAsTold Makes held at mode
+made_by : {S D M : Type 0} (Makes : S → FileCall D M → S → Type 0) (held : S → Holdings) (at : D → List ℕ) (mode : M → ℕ) → CallsHaveEffects Makes held at mode
     → (place draft : List ℕ) (file : D) (a b : S) → Creates Makes place draft file a b → Made place draft (held a) (held b) × (at file ≡ draft)
 made_by Makes held at mode f place draft file a b is =
     let stay = tries_stay Makes held at mode f place is.0 a is.1 is.2 in
@@ -198,8 +198,8 @@ moved_in place draft bytes is_file x y z v self made filled moved =
       };
     }
 
-replaced_by : {S D M : Type 0} (Makes : S → Call D M → S → Type 0) (held : S → Holdings) (at : D → List ℕ) (mode : M → ℕ) → DoesAsTold Makes held at mode
-    → (place bytes : List ℕ) (is_file : Bool) (a b : S) → (held a).place_of place ≡ place → Replaces Makes place is_file bytes a b → PutAt place bytes is_file (held a) (held b)
+replaced_by : {S D M : Type 0} (Makes : S → FileCall D M → S → Type 0) (held : S → Holdings) (at : D → List ℕ) (mode : M → ℕ) → CallsHaveEffects Makes held at mode
+    → (place bytes : List ℕ) (is_file : Bool) (a b : S) → (held a).place_of place ≡ place → ReplacesFile Makes place is_file bytes a b → PutAt place bytes is_file (held a) (held b)
 replaced_by Makes held at mode f place bytes is_file a b self is =
     let draft = is.0 in
     let file = is.1 in
@@ -209,7 +209,7 @@ replaced_by Makes held at mode f place bytes is_file a b self is =
     let filled = subst (λ (p : List ℕ). Filled p place bytes is_file (held s) (held t)) made.1 (filled_by Makes held at mode f place bytes is_file file s t is.4.1) in
     moved_in place draft bytes is_file (held a) (held s) (held t) (held b) self made.0 filled (f t b (renamed draft place true) is.4.2)
 
-overwritten_by : {S D M : Type 0} (Makes : S → Call D M → S → Type 0) (held : S → Holdings) (at : D → List ℕ) (mode : M → ℕ) → DoesAsTold Makes held at mode
+overwritten_by : {S D M : Type 0} (Makes : S → FileCall D M → S → Type 0) (held : S → Holdings) (at : D → List ℕ) (mode : M → ℕ) → CallsHaveEffects Makes held at mode
     → (name bytes : List ℕ) (a b : S) → Overwrites Makes name bytes a b → IsTouchedAt ((held a).place_of name) (held a) (held b)
 overwritten_by Makes held at mode f name bytes a b is =
     let p = (held a).place_of name in
@@ -219,23 +219,23 @@ overwritten_by Makes held at mode f name bytes a b is =
     (subst (λ (q : List ℕ). IsTouchedAt q (held is.2) (held b)) got.1 added.0.touched)
 
 -- behind looks, which change nothing
-put_later : (place bytes : List ℕ) (is_file : Bool) (x y z : Holdings) → Stays x y → PutAt place bytes is_file y z → PutAt place bytes is_file x z
+put_later : (place bytes : List ℕ) (is_file : Bool) (x y z : Holdings) → IsUnchanged x y → PutAt place bytes is_file y z → PutAt place bytes is_file x z
 put_later place bytes is_file x y z stay h = record {
   put = h.put;
   mode = λ had yes is. h.mode had yes ((stays_at x y place stay).bytes ∙ is) ∙ (stays_at x y place stay).mode had is;
   same = else_on (λ q. q ≡ place) x y z (touched place x y stay) h.same;
 }
 
-touched_later : (p : List ℕ) (x y z : Holdings) → Stays x y → IsTouchedAt p y z → IsTouchedAt p x z
+touched_later : (p : List ℕ) (x y z : Holdings) → IsUnchanged x y → IsTouchedAt p y z → IsTouchedAt p x z
 touched_later p x y z stay h = else_on (λ q. q ≡ p) x y z (touched p x y stay) h
 
 -- a file lies under a name
-file_put : (name place bytes : List ℕ) (x y : Holdings) → place ≡ x.place_of name → PutAt place bytes true x y → IsPut name bytes x y
+file_put : (name place bytes : List ℕ) (x y : Holdings) → place ≡ x.place_of name → PutAt place bytes true x y → IsFilePut name bytes x y
 file_put name place bytes x y is h =
     let k = subst (λ (p : List ℕ). PutAt p bytes true x y) is h in
     record { put = λ plain. k.put; mode = λ had plain some. k.mode had refl some; same = k.same }
 
-new_put : (name bytes : List ℕ) (x y : Holdings) → x.place_of name ≡ name → x.bytes_at name ≡ None → PutAt name bytes false x y → IsPut name bytes x y
+new_put : (name bytes : List ℕ) (x y : Holdings) → x.place_of name ≡ name → x.bytes_at name ≡ None → PutAt name bytes false x y → IsFilePut name bytes x y
 new_put name bytes x y self none h =
     let k = subst (λ (p : List ℕ). PutAt p bytes false x y) (sym self) h in
     record {
@@ -244,25 +244,25 @@ new_put name bytes x y self none h =
       same = k.same;
     }
 
-special_put : (name bytes : List ℕ) (x y : Holdings) → x.is_special (x.place_of name) ≡ true → IsTouchedAt (x.place_of name) x y → IsPut name bytes x y
+special_put : (name bytes : List ℕ) (x y : Holdings) → x.is_special (x.place_of name) ≡ true → IsTouchedAt (x.place_of name) x y → IsFilePut name bytes x y
 special_put name bytes x y special h = record {
   put = λ plain. (let bad : true ≡ false = sym special ∙ plain in cc);
   mode = λ had plain some. (let bad : true ≡ false = sym special ∙ plain in cc);
   same = h;
 }
 
-put_over : {S D M : Type 0} (Makes : S → Call D M → S → Type 0) (held : S → Holdings) (at : D → List ℕ) (mode : M → ℕ) → DoesAsTold Makes held at mode
-    → (name bytes : List ℕ) (a s b : S) → Stays (held a) (held s) → (held a).is_special ((held a).place_of name) ≡ true
-    → Overwrites Makes name bytes s b → IsPut name bytes (held a) (held b)
+put_over : {S D M : Type 0} (Makes : S → FileCall D M → S → Type 0) (held : S → Holdings) (at : D → List ℕ) (mode : M → ℕ) → CallsHaveEffects Makes held at mode
+    → (name bytes : List ℕ) (a s b : S) → IsUnchanged (held a) (held s) → (held a).is_special ((held a).place_of name) ≡ true
+    → Overwrites Makes name bytes s b → IsFilePut name bytes (held a) (held b)
 put_over Makes held at mode f name bytes a s b stay special is =
     special_put name bytes (held a) (held b) special
     (touched_later ((held a).place_of name) (held a) (held s) (held b) stay
     (subst (λ (p : List ℕ). IsTouchedAt p (held s) (held b)) (stay.tree.places name) (overwritten_by Makes held at mode f name bytes s b is)))
 
 -- behind a link
-put_behind : {S D M : Type 0} (Makes : S → Call D M → S → Type 0) (held : S → Holdings) (at : D → List ℕ) (mode : M → ℕ) → DoesAsTold Makes held at mode
-    → (name bytes : List ℕ) (a s b : S) (form : Form) → Stays (held a) (held s) → (held a).is_special ((held a).place_of name) ≡ is_special_behind form
-    → PutsBehind Makes name form bytes s b → IsPut name bytes (held a) (held b)
+put_behind : {S D M : Type 0} (Makes : S → FileCall D M → S → Type 0) (held : S → Holdings) (at : D → List ℕ) (mode : M → ℕ) → CallsHaveEffects Makes held at mode
+    → (name bytes : List ℕ) (a s b : S) (form : FileForm) → IsUnchanged (held a) (held s) → (held a).is_special ((held a).place_of name) ≡ is_special_behind form
+    → PutsBehind Makes name form bytes s b → IsFilePut name bytes (held a) (held b)
 put_behind Makes held at mode f name bytes a s b forms.File stay special is =
     let place = is.0 in
     let t = is.1 in
@@ -276,8 +276,8 @@ put_behind Makes held at mode f name bytes a s b forms.Link stay special is = pu
 put_behind Makes held at mode f name bytes a s b forms.Special stay special is = put_over Makes held at mode f name bytes a s b stay special is
 
 -- What stands under a name was found, and then the bytes were put there.
-put_found : {S D M : Type 0} (Makes : S → Call D M → S → Type 0) (held : S → Holdings) (at : D → List ℕ) (mode : M → ℕ) → DoesAsTold Makes held at mode
-    → (name bytes : List ℕ) (a s b : S) (form : Form) → Makes a (looked_at name (Some form)) s → PutsAt Makes name form bytes s b → IsPut name bytes (held a) (held b)
+put_found : {S D M : Type 0} (Makes : S → FileCall D M → S → Type 0) (held : S → Holdings) (at : D → List ℕ) (mode : M → ℕ) → CallsHaveEffects Makes held at mode
+    → (name bytes : List ℕ) (a s b : S) (form : FileForm) → Makes a (looked_at name (Some form)) s → PutsAt Makes name form bytes s b → IsFilePut name bytes (held a) (held b)
 put_found Makes held at mode f name bytes a s b forms.Nothing looked is =
     let found = f a s (looked_at name (Some forms.Nothing)) looked in
     new_put name bytes (held a) (held b) found.1.0 found.1.2
@@ -303,7 +303,7 @@ put_found Makes held at mode f name bytes a s b forms.Link looked is =
     put_behind Makes held at mode f name bytes a is.1 b is.0 stay special is.3
 
 -- What was not put: an open file alone was touched.
-touch_at : {S D M : Type 0} (Makes : S → Call D M → S → Type 0) (held : S → Holdings) (at : D → List ℕ) (mode : M → ℕ) → DoesAsTold Makes held at mode
+touch_at : {S D M : Type 0} (Makes : S → FileCall D M → S → Type 0) (held : S → Holdings) (at : D → List ℕ) (mode : M → ℕ) → CallsHaveEffects Makes held at mode
     → (place : List ℕ) (file file' : D) (a b : S) → Touches Makes place file file' a b → IsTouchedAt (at file) (held a) (held b) × (at file' ≡ at file)
 touch_at Makes held at mode f place file file' a b (inl (None, same, made)) = (touched (at file) (held a) (held b) (f a b (asked_mode place None) made), ap at same)
 touch_at Makes held at mode f place file file' a b (inl (Some m, same, made)) = (touched (at file) (held a) (held b) (f a b (asked_mode place (Some m)) made).0, ap at same)
@@ -313,7 +313,7 @@ touch_at Makes held at mode f place file file' a b (inr (inr (inl (piece, true, 
 touch_at Makes held at mode f place file file' a b (inr (inr (inl (piece, false, made)))) = f a b (wrote file piece file' false) made
 touch_at Makes held at mode f place file file' a b (inr (inr (inr (done, same, made)))) = (touched (at file) (held a) (held b) (f a b (synced file done) made), ap at same)
 
-touches_at : {S D M : Type 0} (Makes : S → Call D M → S → Type 0) (held : S → Holdings) (at : D → List ℕ) (mode : M → ℕ) → DoesAsTold Makes held at mode
+touches_at : {S D M : Type 0} (Makes : S → FileCall D M → S → Type 0) (held : S → Holdings) (at : D → List ℕ) (mode : M → ℕ) → CallsHaveEffects Makes held at mode
     → (place : List ℕ) (n : ℕ) (file file' : D) (a b : S) → TouchesIn Makes place n file file' a b → IsTouchedAt (at file) (held a) (held b) × (at file' ≡ at file)
 unfolding TouchesIn
 touches_at Makes held at mode f place zero file file' a b is =
@@ -325,7 +325,7 @@ touches_at Makes held at mode f place (suc n) file file' a b is =
       last.1 ∙ before.1,
     )
 
-filling_touches : {S D M : Type 0} (Makes : S → Call D M → S → Type 0) (held : S → Holdings) (at : D → List ℕ) (mode : M → ℕ) → DoesAsTold Makes held at mode
+filling_touches : {S D M : Type 0} (Makes : S → FileCall D M → S → Type 0) (held : S → Holdings) (at : D → List ℕ) (mode : M → ℕ) → CallsHaveEffects Makes held at mode
     → (draft place : List ℕ) (file : D) (a b : S) → StopsFilling Makes draft place file a b → IsTouchedAt (at file) (held a) (held b)
 filling_touches Makes held at mode f draft place file a b (s, is, inl same) =
     subst (λ t. IsTouchedAt (at file) (held a) (held t)) (sym same) (touches_at Makes held at mode f place is.0 file is.1 a s is.2).0
@@ -339,17 +339,17 @@ record Kept (place : List ℕ) (x y : Holdings) : Type 0 where
   files : (p bytes : List ℕ) → x.bytes_at p ≡ Some bytes → IsSameAt p x y
   tree : IsSameTree x y
 
-stay_kept : (place : List ℕ) (x y : Holdings) → Stays x y → Kept place x y
+stay_kept : (place : List ℕ) (x y : Holdings) → IsUnchanged x y → Kept place x y
 stay_kept place x y h = record { own = stays_at x y place h; files = λ p bytes is. stays_at x y p h; tree = h.tree }
 
-kept_later : (place : List ℕ) (x y z : Holdings) → Stays x y → Kept place y z → Kept place x z
+kept_later : (place : List ℕ) (x y z : Holdings) → IsUnchanged x y → Kept place y z → Kept place x z
 kept_later place x y z h k = record {
   own = same_on place x y z (stays_at x y place h) k.own;
   files = λ p bytes is. same_on p x y z (stays_at x y p h) (k.files p bytes ((stays_at x y p h).bytes ∙ is));
   tree = tree_on x y z h.tree k.tree;
 }
 
-replacing_keeps : {S D M : Type 0} (Makes : S → Call D M → S → Type 0) (held : S → Holdings) (at : D → List ℕ) (mode : M → ℕ) → DoesAsTold Makes held at mode
+replacing_keeps : {S D M : Type 0} (Makes : S → FileCall D M → S → Type 0) (held : S → Holdings) (at : D → List ℕ) (mode : M → ℕ) → CallsHaveEffects Makes held at mode
     → (place : List ℕ) (a b : S) → StopsReplacing Makes place a b → Kept place (held a) (held b)
 replacing_keeps Makes held at mode f place a b (inl is) = stay_kept place (held a) (held b) (tries_stay Makes held at mode f place is.0 a b is.1)
 replacing_keeps Makes held at mode f place a b (inr (draft, file, s, t, done, made, filled, gone)) =
@@ -377,7 +377,7 @@ special_unharmed name x y special h = record {
   others = λ p bytes other at. h.others p other;
 }
 
-overwriting_touches : {S D M : Type 0} (Makes : S → Call D M → S → Type 0) (held : S → Holdings) (at : D → List ℕ) (mode : M → ℕ) → DoesAsTold Makes held at mode
+overwriting_touches : {S D M : Type 0} (Makes : S → FileCall D M → S → Type 0) (held : S → Holdings) (at : D → List ℕ) (mode : M → ℕ) → CallsHaveEffects Makes held at mode
     → (name : List ℕ) (a b : S) → StopsOverwriting Makes name a b → IsTouchedAt ((held a).place_of name) (held a) (held b)
 overwriting_touches Makes held at mode f name a b (inl made) = touched ((held a).place_of name) (held a) (held b) (f a b (opened name None) made)
 overwriting_touches Makes held at mode f name a b (inr (file, s, made, is)) =
@@ -386,19 +386,19 @@ overwriting_touches Makes held at mode f name a b (inr (file, s, made, is)) =
     else_on (λ q. q ≡ p) (held a) (held s) (held b) (touched p (held a) (held s) got.0)
     (subst (λ (q : List ℕ). IsTouchedAt q (held s) (held b)) got.1 (touches_at Makes held at mode f name is.0 file is.1 s b is.2).0)
 
-stopped_over : {S D M : Type 0} (Makes : S → Call D M → S → Type 0) (held : S → Holdings) (at : D → List ℕ) (mode : M → ℕ) → DoesAsTold Makes held at mode
-    → (name : List ℕ) (a s b : S) → Stays (held a) (held s) → (held a).is_special ((held a).place_of name) ≡ true
+stopped_over : {S D M : Type 0} (Makes : S → FileCall D M → S → Type 0) (held : S → Holdings) (at : D → List ℕ) (mode : M → ℕ) → CallsHaveEffects Makes held at mode
+    → (name : List ℕ) (a s b : S) → IsUnchanged (held a) (held s) → (held a).is_special ((held a).place_of name) ≡ true
     → StopsOverwriting Makes name s b → IsUnharmed name (held a) (held b)
 stopped_over Makes held at mode f name a s b stay special is =
     special_unharmed name (held a) (held b) special
     (touched_later ((held a).place_of name) (held a) (held s) (held b) stay
     (subst (λ (p : List ℕ). IsTouchedAt p (held s) (held b)) (stay.tree.places name) (overwriting_touches Makes held at mode f name s b is)))
 
-stays_unharmed : (name : List ℕ) (x y : Holdings) → Stays x y → IsUnharmed name x y
+stays_unharmed : (name : List ℕ) (x y : Holdings) → IsUnchanged x y → IsUnharmed name x y
 stays_unharmed name x y h = kept_unharmed name (x.place_of name) x y refl (stay_kept (x.place_of name) x y h)
 
-stopped_behind : {S D M : Type 0} (Makes : S → Call D M → S → Type 0) (held : S → Holdings) (at : D → List ℕ) (mode : M → ℕ) → DoesAsTold Makes held at mode
-    → (name : List ℕ) (a s b : S) (form : Form) → Stays (held a) (held s) → (held a).is_special ((held a).place_of name) ≡ is_special_behind form
+stopped_behind : {S D M : Type 0} (Makes : S → FileCall D M → S → Type 0) (held : S → Holdings) (at : D → List ℕ) (mode : M → ℕ) → CallsHaveEffects Makes held at mode
+    → (name : List ℕ) (a s b : S) (form : FileForm) → IsUnchanged (held a) (held s) → (held a).is_special ((held a).place_of name) ≡ is_special_behind form
     → StopsBehind Makes name form s b → IsUnharmed name (held a) (held b)
 stopped_behind Makes held at mode f name a s b forms.File stay special (inl made) =
     stays_unharmed name (held a) (held b) (else_on (λ p. ⊥) (held a) (held s) (held b) stay (f s b (followed name None) made))
@@ -410,8 +410,8 @@ stopped_behind Makes held at mode f name a s b forms.Nothing stay special is = s
 stopped_behind Makes held at mode f name a s b forms.Link stay special is = stopped_over Makes held at mode f name a s b stay special is
 stopped_behind Makes held at mode f name a s b forms.Special stay special is = stopped_over Makes held at mode f name a s b stay special is
 
-stopped_found : {S D M : Type 0} (Makes : S → Call D M → S → Type 0) (held : S → Holdings) (at : D → List ℕ) (mode : M → ℕ) → DoesAsTold Makes held at mode
-    → (name : List ℕ) (a s b : S) (form : Form) → Makes a (looked_at name (Some form)) s → StopsAt Makes name form s b → IsUnharmed name (held a) (held b)
+stopped_found : {S D M : Type 0} (Makes : S → FileCall D M → S → Type 0) (held : S → Holdings) (at : D → List ℕ) (mode : M → ℕ) → CallsHaveEffects Makes held at mode
+    → (name : List ℕ) (a s b : S) (form : FileForm) → Makes a (looked_at name (Some form)) s → StopsAtCall Makes name form s b → IsUnharmed name (held a) (held b)
 stopped_found Makes held at mode f name a s b forms.Nothing looked is =
     let found = f a s (looked_at name (Some forms.Nothing)) looked in
     kept_unharmed name name (held a) (held b) (sym found.1.0) (kept_later name (held a) (held s) (held b) found.0 (replacing_keeps Makes held at mode f name s b is))
@@ -429,12 +429,12 @@ stopped_found Makes held at mode f name a s b forms.Link looked (inr (form, t, m
     stopped_behind Makes held at mode f name a t b form (else_on (λ p. ⊥) (held a) (held s) (held t) link seen.0)
     (sym (ap (held a).is_special (link.tree.places name)) ∙ (sym (link.tree.special ((held s).place_of name)) ∙ seen.1)) is
 
-stopped : {S D M : Type 0} (Makes : S → Call D M → S → Type 0) (held : S → Holdings) (at : D → List ℕ) (mode : M → ℕ) → DoesAsTold Makes held at mode
+stopped : {S D M : Type 0} (Makes : S → FileCall D M → S → Type 0) (held : S → Holdings) (at : D → List ℕ) (mode : M → ℕ) → CallsHaveEffects Makes held at mode
     → (name : List ℕ) (a b : S) → StopsPutting Makes name a b → IsUnharmed name (held a) (held b)
 stopped Makes held at mode f name a b (inl made) = stays_unharmed name (held a) (held b) (f a b (looked_at name None) made)
 stopped Makes held at mode f name a b (inr (form, s, made, is)) = stopped_found Makes held at mode f name a s b form made is
 
-pub are_put : {S D M : Type 0} (Makes : S → Call D M → S → Type 0) → ArePut Makes
+pub are_put : {S D M : Type 0} (Makes : S → FileCall D M → S → Type 0) → ArePut Makes
 are_put Makes = record {
   puts = λ held at mode f name bytes a b is. put_found Makes held at mode f name bytes a is.1 b is.0 is.2 is.3;
   stops = λ held at mode f name a b is. stopped Makes held at mode f name a b is;

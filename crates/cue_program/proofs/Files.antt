@@ -4,23 +4,23 @@ use Rattle.std.specs.List.{AllByRecursion}
 use Rattle.std.proofs.lemmas.List.{append_assoc, length-take, map-append, map_push, take_more, take-append-drop, drop_more}
 use Rattle.cue_lattice.specs.World.{Piece, text, piece_refuses, AllAlong}
 use Rattle.cue_replica.specs.Language.{Table, language}
-use Rattle.cue_replica.specs.Replica.{Adds}
+use Rattle.cue_replica.specs.Replica.{AddsRefusals}
 use Rattle.cue_replica.specs.Accepted.{IsAcceptable}
 use Rattle.cue_replica.specs.declared.Refusal.{Refusal}
 use Rattle.cue_replica.proofs.Along.{along_push, length-along}
-use Rattle.cue_program.specs.declared.gathered.Gathered.{Gathered}
-use Rattle.cue_program.specs.declared.stop.Stop.{Stop}
+use Rattle.cue_program.specs.declared.batch.SiteBatch.{SiteBatch}
+use Rattle.cue_program.specs.declared.stop.RunError.{RunError}
 use Rattle.cue_program.specs.inner.Gathered.{IsGathered}
 use Rattle.cue_program.proofs.Batches.{all_acceptable}
 use Rattle.std.specs.Prelude.{get_or}
-use Rattle.cue_program.specs.Files.{AreAll, texts}
-use Rattle.cue_program.specs.Inputs.{Gives, IsFilePiece, IsFirstRefused, IsFirstUnread, IsInputRefused, IsPieceRefusal, files}
+use Rattle.cue_program.specs.Files.{AreAll, texts_of_files}
+use Rattle.cue_program.specs.Inputs.{InputGives, IsFilePiece, IsFirstRefused, IsFirstUnread, IsInputRefused, IsPieceRefusal, files}
 use Rattle.cue_program.specs.Stops.{IsRefusedAs, IsUnreadable}
 
 -- the site has accepted the piece of these bytes
 abbrev pub Accepts : List ℕ → Table → Table → Type 0
 Accepts bytes old new =
-    (piece : Piece) × IsFilePiece bytes piece × IsAcceptable piece × Adds old (piece_refuses language piece) new
+    (piece : Piece) × IsFilePiece bytes piece × IsAcceptable piece × AddsRefusals old (piece_refuses language piece) new
 
 -- a further fact of what is answered without an error, or with one
 pub ok_more : {T E P Q : Type 0} (r : Result T E) → OnOk r P → (P → Q) → OnOk r Q
@@ -46,27 +46,27 @@ both_ok (Ok x) h k f = f h k
 both_ok (Err e) h k f = tt
 
 -- the pieces of these files were taken
-pub record HasTakenFiles (gathered : Gathered) (known : List (Option (List ℕ))) : Type 0 where
+pub record HasTakenFiles (gathered : SiteBatch) (known : List (Option (List ℕ))) : Type 0 where
   pub pieces : List Piece
-  pub given : AllAlong Gives known pieces
+  pub given : AllAlong InputGives known pieces
   pub gathers : IsGathered gathered pieces
 
 -- where nothing was gathered, no files were taken
-pub files_none : (gathered : Gathered) → IsGathered gathered [] → HasTakenFiles gathered []
+pub files_none : (gathered : SiteBatch) → IsGathered gathered [] → HasTakenFiles gathered []
 files_none gathered none = record { pieces = []; given = tt; gathers = none }
 
 -- with the piece of a further file one file more was taken
 pub files_more :
-    (known : List (Option (List ℕ))) (next : Option (List ℕ)) (old new : Gathered) (bytes : List ℕ) (h : HasTakenFiles old known) → AreAll next bytes
+    (known : List (Option (List ℕ))) (next : Option (List ℕ)) (old new : SiteBatch) (bytes : List ℕ) (h : HasTakenFiles old known) → AreAll next bytes
     → ((piece : Piece) × IsFilePiece bytes piece × IsGathered new (h.pieces ++ piece ∷ [])) → HasTakenFiles new (known ++ next ∷ [])
 files_more known next old new bytes h all more = record {
   pieces = h.pieces ++ more.0 ∷ [];
-  given = along_push Gives known h.pieces next more.0 h.given (bytes, all, more.1);
+  given = along_push InputGives known h.pieces next more.0 h.given (bytes, all, more.1);
   gathers = more.2;
 }
 
 -- all pieces of these files are acceptable
-pub files_fine : (gathered : Gathered) (known : List (Option (List ℕ))) (h : HasTakenFiles gathered known) → AllByRecursion IsAcceptable h.pieces
+pub files_fine : (gathered : SiteBatch) (known : List (Option (List ℕ))) (h : HasTakenFiles gathered known) → AllByRecursion IsAcceptable h.pieces
 files_fine gathered known h = all_acceptable gathered.site gathered.batch h.pieces h.gathers
 
 small : (n number : ℕ) → number ≡ n + 1 → n + 1 ≤ 2 ^ 64 - 1 → number ≡ min (n + 1) (2 ^ 64 - 1)
@@ -75,7 +75,7 @@ small n number is less = omega (arith, is, less)
 -- the first file that is refused after those that are fine
 pub files_first_refused :
     (IsFine : Piece → Type 0) (IsReason : Piece → Refusal → Type 0) (front back : List (Option (List ℕ))) (next : Option (List ℕ)) (pieces : List Piece)
-    (number : ℕ) (bytes : List ℕ) (stop : Stop) → AllAlong Gives front pieces → AllByRecursion IsFine pieces → AreAll next bytes
+    (number : ℕ) (bytes : List ℕ) (stop : RunError) → AllAlong InputGives front pieces → AllByRecursion IsFine pieces → AreAll next bytes
     → number ≡ min (length pieces + 1) (2 ^ 64 - 1)
     → ((piece : Piece) × (why : Refusal) × IsFilePiece bytes piece × IsReason piece why × IsRefusedAs why number stop)
     → IsFirstRefused IsFine IsReason (files (front ++ next ∷ back)) stop
@@ -83,7 +83,7 @@ files_first_refused IsFine IsReason front back next pieces number bytes stop giv
   before = pieces;
   piece = fault.0;
   why = fault.1;
-  begin = (front ++ next ∷ [], back, sym (append_assoc front (next ∷ []) back), along_push Gives front pieces next fault.0 give (bytes, all, fault.2));
+  begin = (front ++ next ∷ [], back, sym (append_assoc front (next ∷ []) back), along_push InputGives front pieces next fault.0 give (bytes, all, fault.2));
   accepted = fine;
   refusal = fault.3;
   told = subst (λ (n : ℕ). IsRefusedAs fault.1 n stop) counted fault.4;
@@ -91,46 +91,46 @@ files_first_refused IsFine IsReason front back next pieces number bytes stop giv
 
 -- the first file that is refused after those that were taken
 pub files_refused :
-    (front back : List (Option (List ℕ))) (next : Option (List ℕ)) (number : ℕ) (old : Gathered) (bytes : List ℕ) (stop : Stop)
+    (front back : List (Option (List ℕ))) (next : Option (List ℕ)) (number : ℕ) (old : SiteBatch) (bytes : List ℕ) (stop : RunError)
     → HasTakenFiles old front → AreAll next bytes → number ≡ length front + 1 → number ≤ 2 ^ 64 - 1
     → ((piece : Piece) × (why : Refusal) × IsFilePiece bytes piece × IsPieceRefusal piece why × IsRefusedAs why number stop)
     → IsInputRefused (files (front ++ next ∷ back)) stop
 files_refused front back next number old bytes stop h all counted most fault =
-    let long = length-along Gives front h.pieces h.given in
+    let long = length-along InputGives front h.pieces h.given in
     files_first_refused IsAcceptable IsPieceRefusal front back next h.pieces number bytes stop h.given (files_fine old front h) all
     (small (length h.pieces) number (counted ∙ ap (λ n. n + 1) long) (omega (arith, counted, long, most))) fault
 
 -- the first file that can't be read after those that are fine
 pub files_unread :
-    (IsFine : Piece → Type 0) (front back : List (Option (List ℕ))) (next : Option (List ℕ)) (pieces : List Piece) (stop : Stop)
-    → AllAlong Gives front pieces → AllByRecursion IsFine pieces → IsUnreadable next stop → IsFirstUnread IsFine (files (front ++ next ∷ back)) stop
+    (IsFine : Piece → Type 0) (front back : List (Option (List ℕ))) (next : Option (List ℕ)) (pieces : List Piece) (stop : RunError)
+    → AllAlong InputGives front pieces → AllByRecursion IsFine pieces → IsUnreadable next stop → IsFirstUnread IsFine (files (front ++ next ∷ back)) stop
 files_unread IsFine front back next pieces stop give fine fault = (front, back, next, pieces, refl, give, fine, fault)
 
 -- the names so far with one more
 pub take_known :
     (K : List ℕ → Option (List ℕ)) (names : List (Bor (List ℕ))) (i : ℕ) (d : Bor (List ℕ)) → i < length names
-    → map K (texts (take (i + 1) names)) ≡ map K (texts (take i names)) ++ K (get_or names i d).now ∷ []
+    → map K (texts_of_files (take (i + 1) names)) ≡ map K (texts_of_files (take i names)) ++ K (get_or names i d).now ∷ []
 take_known K names i d less =
-    ap (λ (ns : List (Bor (List ℕ))). map K (texts ns)) (take_more names i d less)
+    ap (λ (ns : List (Bor (List ℕ))). map K (texts_of_files ns)) (take_more names i d less)
     ∙ (ap (λ (ns : List (List ℕ)). map K ns) (map_push (λ (n : Bor (List ℕ)). n.now) (take i names) (get_or names i d))
-    ∙ map_push K (texts (take i names)) (get_or names i d).now)
+    ∙ map_push K (texts_of_files (take i names)) (get_or names i d).now)
 
 -- the names so far, the next, and the others
 pub split_known :
     (K : List ℕ → Option (List ℕ)) (names : List (Bor (List ℕ))) (i : ℕ) (d : Bor (List ℕ)) → i < length names
-    → map K (texts names) ≡ map K (texts (take i names)) ++ K (get_or names i d).now ∷ map K (texts (drop (i + 1) names))
+    → map K (texts_of_files names) ≡ map K (texts_of_files (take i names)) ++ K (get_or names i d).now ∷ map K (texts_of_files (drop (i + 1) names))
 split_known K names i d less =
-    ap (λ (ns : List (Bor (List ℕ))). map K (texts ns)) (sym (take-append-drop i names) ∙ ap (λ (ns : List (Bor (List ℕ))). take i names ++ ns) (drop_more names i d less))
+    ap (λ (ns : List (Bor (List ℕ))). map K (texts_of_files ns)) (sym (take-append-drop i names) ∙ ap (λ (ns : List (Bor (List ℕ))). take i names ++ ns) (drop_more names i d less))
     ∙ (ap (λ (ns : List (List ℕ)). map K ns) (map-append (λ (n : Bor (List ℕ)). n.now) (take i names) (get_or names i d ∷ drop (i + 1) names))
-    ∙ map-append K (texts (take i names)) ((get_or names i d).now ∷ texts (drop (i + 1) names)))
+    ∙ map-append K (texts_of_files (take i names)) ((get_or names i d).now ∷ texts_of_files (drop (i + 1) names)))
 
 length_mapped : {X Y : Type 0} (f : X → Y) (xs : List X) → length (map f xs) ≡ length xs
 length_mapped f [] = refl
 length_mapped f (x ∷ xs) = ap suc (length_mapped f xs)
 
-pub length_known : (K : List ℕ → Option (List ℕ)) (names : List (Bor (List ℕ))) (i : ℕ) → i < length names → length (map K (texts (take i names))) ≡ i
+pub length_known : (K : List ℕ → Option (List ℕ)) (names : List (Bor (List ℕ))) (i : ℕ) → i < length names → length (map K (texts_of_files (take i names))) ≡ i
 length_known K names i less =
-    length_mapped K (texts (take i names)) ∙ (length_mapped (λ (n : Bor (List ℕ)). n.now) (take i names) ∙ omega (arith, length-take i names, less))
+    length_mapped K (texts_of_files (take i names)) ∙ (length_mapped (λ (n : Bor (List ℕ)). n.now) (take i names) ∙ omega (arith, length-take i names, less))
 
 -- what holds of each part holds of each as a text
 pub all_texts : (P : Piece → Type 0) (parts : List (List ℕ)) → AllByRecursion (λ part. P (text part)) parts → AllByRecursion P (map text parts)

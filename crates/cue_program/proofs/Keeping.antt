@@ -6,14 +6,14 @@ use Rattle.std.proofs.lemmas.List.{length-take, take_all}
 use Rattle.cue_lattice.specs.World.{Piece, text}
 use Rattle.cue_replica.specs.Accepted.{text_limit}
 use Rattle.cue_replica.specs.Language.{Table, language}
-use Rattle.cue_replica.specs.Replica.{Adds}
+use Rattle.cue_replica.specs.Replica.{AddsRefusals}
 use Rattle.cue_replica.specs.declared.Refusal.{Refusal}
 use Rattle.cue_replica.proofs.Texts.{lexed_short}
 use Rattle.cue_program.specs.Files.{AreAll}
-use Rattle.cue_program.specs.Inputs.{IsByteFault, IsEnoughOf, IsFilePiece, IsPieceRefusal, IsText, IsTextRefusal}
+use Rattle.cue_program.specs.Inputs.{IsByteFault, IsEnoughOf, IsFilePiece, IsPieceRefusal, IsTextInput, IsTextInputRefusal}
 use Rattle.cue_program.proofs.Files.{Accepts}
 use Rattle.cue_program.specs.Stops.{IsRefusedAs}
-use Rattle.cue_program.specs.declared.stop.Stop.{Stop}
+use Rattle.cue_program.specs.declared.stop.RunError.{RunError}
 use Rattle.cue_program.specs.inner.Reading.{IsAllRead}
 
 -- what is put behind a front changes no front that is as long
@@ -73,7 +73,7 @@ fine_is_all IsFine known kept none h piece is fine = go (whole_or_long h.0 kept 
 
 -- where what is kept of a file is refused, so is the file, where all texts that are too long are for the same reason
 pub refused_is_all :
-    (IsReason : Piece → Refusal → Type 0) (known : Option (List ℕ)) (kept : List ℕ) (number : ℕ) (stop : Stop)
+    (IsReason : Piece → Refusal → Type 0) (known : Option (List ℕ)) (kept : List ℕ) (number : ℕ) (stop : RunError)
     → ((long other : List ℕ) (why : Refusal) → text_limit < length long → text_limit < length other → IsReason (text long) why → IsReason (text other) why)
     → IsAllRead (λ all. IsEnoughOf all kept) known
     → ((piece : Piece) × (why : Refusal) × IsFilePiece kept piece × IsReason piece why × IsRefusedAs why number stop)
@@ -95,7 +95,7 @@ pub long_fault : (long other : List ℕ) (why : Refusal) → text_limit < length
 long_fault long other why a b (inl h) = inl (b, h.1)
 long_fault long other why a b (inr h) = absurd (omega (arith, a, h.0))
 
-pub long_refusal : (long other : List ℕ) (why : Refusal) → text_limit < length long → text_limit < length other → IsTextRefusal long why → IsTextRefusal other why
+pub long_refusal : (long other : List ℕ) (why : Refusal) → text_limit < length long → text_limit < length other → IsTextInputRefusal long why → IsTextInputRefusal other why
 long_refusal long other why a b (inl h) = inl (long_fault long other why a b h)
 long_refusal long other why a b (inr h) = absurd (omega (arith, a, h.0.0))
 
@@ -103,13 +103,13 @@ long_refusal long other why a b (inr h) = absurd (omega (arith, a, h.0.0))
 pub long_is_illegal : (long : List ℕ) → text_limit < length long → language.IsLegal long → ⊥
 long_is_illegal long a h = absurd (omega (arith, a, lexed_short long h.1.words h.1.lexed))
 
-pub long_is_unsent : (long : List ℕ) → text_limit < length long → IsText long → ⊥
+pub long_is_unsent : (long : List ℕ) → text_limit < length long → IsTextInput long → ⊥
 long_is_unsent long a h = absurd (omega (arith, a, h.0))
 
 -- a text that is accepted and enough of a file is all of it
 pub text_accepted :
     (bytes kept : List ℕ) (old new : Table) → slice_get bytes 0 ≢ Some 254 → IsEnoughOf bytes kept → language.IsLegal kept
-    → Adds old (language.text_refuses kept) new → Accepts bytes old new
+    → AddsRefusals old (language.text_refuses kept) new → Accepts bytes old new
 text_accepted bytes kept old new first enough legal adds = go (whole_or_long bytes kept enough)
   where
     go : (kept ≡ bytes) ⊎ ((slice_get bytes 0 ≢ Some 254) × (slice_get kept 0 ≢ Some 254) × (text_limit < length kept) × (text_limit < length bytes)) → Accepts bytes old new
@@ -117,18 +117,18 @@ text_accepted bytes kept old new first enough legal adds = go (whole_or_long byt
       text bytes,
       inr (first, refl),
       subst language.IsLegal same legal,
-      subst (λ (t : List ℕ). Adds old (language.text_refuses t) new) same adds,
+      subst (λ (t : List ℕ). AddsRefusals old (language.text_refuses t) new) same adds,
     )
     go (inr long) = absurd (long_is_illegal kept long.2 legal)
 
 -- what enough of a file is refused for as a text the file is
 pub text_refused :
-    (bytes kept : List ℕ) (number : ℕ) (stop : Stop) → slice_get bytes 0 ≢ Some 254 → IsEnoughOf bytes kept
-    → ((why : Refusal) × IsRefusedAs why number stop × IsTextRefusal kept why)
+    (bytes kept : List ℕ) (number : ℕ) (stop : RunError) → slice_get bytes 0 ≢ Some 254 → IsEnoughOf bytes kept
+    → ((why : Refusal) × IsRefusedAs why number stop × IsTextInputRefusal kept why)
     → (piece : Piece) × (why : Refusal) × IsFilePiece bytes piece × IsPieceRefusal piece why × IsRefusedAs why number stop
 text_refused bytes kept number stop first enough fault = go (whole_or_long bytes kept enough)
   where
     go : (kept ≡ bytes) ⊎ ((slice_get bytes 0 ≢ Some 254) × (slice_get kept 0 ≢ Some 254) × (text_limit < length kept) × (text_limit < length bytes))
         → (piece : Piece) × (why : Refusal) × IsFilePiece bytes piece × IsPieceRefusal piece why × IsRefusedAs why number stop
-    go (inl same) = (text bytes, fault.0, inr (first, refl), subst (λ (t : List ℕ). IsTextRefusal t fault.0) same fault.2, fault.1)
+    go (inl same) = (text bytes, fault.0, inr (first, refl), subst (λ (t : List ℕ). IsTextInputRefusal t fault.0) same fault.2, fault.1)
     go (inr long) = (text bytes, fault.0, inr (first, refl), long_refusal kept bytes fault.0 long.2 long.3 fault.2, fault.1)

@@ -8,7 +8,7 @@ use Rattle.std.proofs.lemmas.List.Folds.{concat-append}
 use Rattle.std.proofs.Math.Seq.{take-append_seam}
 use Rattle.std.proofs.lemmas.Bool.{false≢true, ltb-false}
 use Rattle.std.proofs.lemmas.Option.{none-some}
-use Rattle.cue_program.specs.Parts.{lines_of, longer, IsSeparator, IsPart, IsFirstPart}
+use Rattle.cue_program.specs.Parts.{lines_of, lengthen_line, IsSeparator, IsPart, IsFirstPart}
 
 -- up to the first line break
 line_at : (bytes : List ℕ) (k : ℕ) → k < length bytes → (get_or bytes k 0 == 10) ≡ true → ((i : ℕ) → i < k → (get_or bytes i 0 == 10) ≡ false)
@@ -51,7 +51,7 @@ line_whole [] some none = absurd (omega arith)
 line_whole (b ∷ bytes) some none = one_line b bytes (none_breaks (b ∷ bytes) none)
 
 -- the lines joined
-joined_longer : (b : ℕ) (lines : List (List ℕ)) → concat (longer b lines) ≡ b ∷ concat lines
+joined_longer : (b : ℕ) (lines : List (List ℕ)) → concat (lengthen_line b lines) ≡ b ∷ concat lines
 joined_longer b [] = refl
 joined_longer b (line ∷ lines) = refl
 

@@ -8,12 +8,12 @@ use Rattle.cue_codec.specs.Pieces as pieces
 use Rattle.cue_codec.specs.Pieces.{Intake, IsIntake, IsNotTakenIn, IsTakenIn}
 use Rattle.cue_replica.proofs.Reading.{are_read_in_pieces}
 use Rattle.cue_program.specs.Files.{AreAll}
-use Rattle.cue_program.specs.Stops.{IsLong, piece_size, read_limit}
-use Rattle.cue_program.specs.Outlets.{Adds, Breaks, HasBegun, IsUntold, Passage, passed}
-use Rattle.cue_program.specs.Stops.{IsDevice, IsMemory}
-use Rattle.cue_program.specs.declared.outlet.Outlet.{Outlet}
-use Rattle.cue_program.specs.declared.stop.Stop.{Stop}
-use Rattle.cue_program.specs.declared.stop.Stop.TheVariants as stops
+use Rattle.cue_program.specs.Stops.{IsLongStop, piece_size, read_limit}
+use Rattle.cue_program.specs.Outlets.{AddsBytes, BreaksAfter, HasBegun, IsWriteFailed, Passage, passage_of}
+use Rattle.cue_program.specs.Stops.{IsDeviceStop, IsMemoryStop}
+use Rattle.cue_program.specs.declared.output.Output.{Output}
+use Rattle.cue_program.specs.declared.stop.RunError.{RunError}
+use Rattle.cue_program.specs.declared.stop.RunError.TheVariants as stops
 use Rattle.cue_replica.specs.declared.Kind.{Kind}
 use Rattle.cue_program.specs.inner.Reading.{IsAllRead, IsRestRead}
 use Rattle.cue_program.proofs.Devices.{appends_keeps, appends_more, consumed_all, consumes_more, consumes_none}
@@ -85,7 +85,7 @@ goes_long IsKept a b old new count h most = long a b h.0 h.1 (omega (arith, h.4,
     long (Some x) (Some y) done read most = omega (arith, most, ap (λ (l : List ℕ). length l) read, length-append done y)
 
 -- and one that had given a byte before
-pub long_of_rest : (a b : Option (List ℕ)) (front : List ℕ) → Consumes a b front → 0 < length front → IfSome b (λ rest. read_limit ≤ length rest + 1) → IsLong a
+pub long_of_rest : (a b : Option (List ℕ)) (front : List ℕ) → Consumes a b front → 0 < length front → IfSome b (λ rest. read_limit ≤ length rest + 1) → IsLongStop a
 long_of_rest None b front read some rest = tt
 long_of_rest (Some x) None front read some rest = absurd read
 long_of_rest (Some x) (Some y) front read some rest = omega (arith, some, rest, ap (λ (l : List ℕ). length l) read, length-append front y)
@@ -159,16 +159,16 @@ told_some p all left h = (h.0, left, h.1, h.2)
 
 -- bytes that were all handed on, and could not be got out
 pub untold_at_flush :
-    {W : Type 0} (contents : W → Option (List ℕ)) (old mid new : Outlet W) (bytes : List ℕ) (stop : Stop) → Adds (passed contents old mid) bytes
-    → Keeps (contents mid.inner) (contents new.inner) → new.failed ≡ true → IsDevice stop → IsUntold (passed contents old new) bytes stop
+    {W : Type 0} (contents : W → Option (List ℕ)) (old mid new : Output W) (bytes : List ℕ) (stop : RunError) → AddsBytes (passage_of contents old mid) bytes
+    → Keeps (contents mid.inner) (contents new.inner) → new.failed ≡ true → IsDeviceStop stop → IsWriteFailed (passage_of contents old new) bytes stop
 untold_at_flush contents old mid new bytes stop told kept failed device =
     inl (device, ((bytes, [], sym (append-nil bytes), appends_keeps (contents old.inner) (contents mid.inner) (contents new.inner) bytes told kept), failed))
 
 -- a piece of what was left could not be handed on
 pub untold_at_piece :
-    {W : Type 0} (contents : W → Option (List ℕ)) (old mid new : Outlet W) (all left piece : List ℕ) (count : ℕ) (stop : Stop)
+    {W : Type 0} (contents : W → Option (List ℕ)) (old mid new : Output W) (all left piece : List ℕ) (count : ℕ) (stop : RunError)
     → ((done : List ℕ) × (all ≡ done ++ left) × Appends (contents old.inner) (contents mid.inner) done)
-    → Breaks (passed contents mid new) (take count piece) → take count piece ≡ take count left → IsDevice stop → IsUntold (passed contents old new) all stop
+    → BreaksAfter (passage_of contents mid new) (take count piece) → take count piece ≡ take count left → IsDeviceStop stop → IsWriteFailed (passage_of contents old new) all stop
 untold_at_piece contents old mid new all left piece count stop h broken same device =
     let front = broken.0.0 in
     let back = broken.0.1 in
@@ -179,7 +179,7 @@ untold_at_piece contents old mid new all left piece count stop h broken same dev
     inl (device, ((h.0 ++ front, back ++ behind, whole, appends_more (contents old.inner) (contents mid.inner) (contents new.inner) h.0 front h.2 broken.0.3), broken.1))
 
 -- a reader that no memory was refused to fails for want of memory alone
-pub memory_alone : (bytes : List ℕ) (old new : Intake) (kind : Kind) → IsIntake bytes old → IsNotTakenIn old kind new → IsMemory (stops.Refused kind)
+pub memory_alone : (bytes : List ℕ) (old new : Intake) (kind : Kind) → IsIntake bytes old → IsNotTakenIn old kind new → IsMemoryStop (stops.Refused kind)
 memory_alone bytes (pieces.so_far front) new kind is not = ap (λ (k : Kind). stops.Refused k) not.0
 memory_alone bytes pieces.other_version new kind is not = absurd not
 memory_alone bytes pieces.no_state new kind is not = absurd not

@@ -6,14 +6,14 @@ use Rattle.std.proofs.lemmas.List.{map_push}
 use Rattle.cue_lattice.specs.World.{text, state}
 use Rattle.cue_replica.proofs.Along.{along_push}
 use Rattle.cue_wire.specs.declared.request.Request as requests
-use Rattle.cue_wire.specs.Clients.{request_of}
+use Rattle.cue_wire.specs.Clients.{request_of_client}
 use Rattle.cue_wire.specs.Requests as asking
 use Rattle.cue_program.specs.Files.{AreAll}
-use Rattle.cue_program.specs.Inputs.{AreStreamPieces, Gives, IsByteFault, IsText, files, stream}
+use Rattle.cue_program.specs.Inputs.{AreStreamPieces, InputGives, IsByteFault, IsTextInput, files, stream}
 use Rattle.cue_program.specs.Parts.{IsFirstPart}
-use Rattle.cue_program.specs.Requests.{AreRequests, CanBeSent, IsPieceFault, IsUnsentOn, request_for}
-use Rattle.cue_program.specs.Stops.{IsLong, IsMemory, IsUnreadable, read_limit}
-use Rattle.cue_program.specs.declared.stop.Stop.{Stop}
+use Rattle.cue_program.specs.Requests.{AreRequests, CanBeSent, IsRequestFault, IsUnsentOn, request_for}
+use Rattle.cue_program.specs.Stops.{IsLongStop, IsMemoryStop, IsUnreadable, read_limit}
+use Rattle.cue_program.specs.declared.stop.RunError.{RunError}
 use Rattle.cue_program.specs.inner.Sending.{AreTextRequests, IsFileRequest, IsFileUnsent, IsNoText, IsPartUnsent}
 use Rattle.cue_program.specs.inner.Texts.{AreFirstParts}
 use Rattle.cue_program.proofs.Files.{all_texts, files_first_refused, files_unread}
@@ -29,35 +29,35 @@ length_mapped f [] = refl
 length_mapped f (x ∷ xs) = ap suc (length_mapped f xs)
 
 -- requests that mean what others mean are as many
-same_length : {X : Type 0} (f : X → asking.Request) (asked : List requests.Request) (xs : List X) → map request_of asked ≡ map f xs → length asked ≡ length xs
-same_length f asked xs same = sym (length_mapped request_of asked) ∙ (ap (λ (rs : List asking.Request). length rs) same ∙ length_mapped f xs)
+same_length : {X : Type 0} (f : X → asking.Request) (asked : List requests.Request) (xs : List X) → map request_of_client asked ≡ map f xs → length asked ≡ length xs
+same_length f asked xs same = sym (length_mapped request_of_client asked) ∙ (ap (λ (rs : List asking.Request). length rs) same ∙ length_mapped f xs)
 
-numbered : {X : Type 0} (f : X → asking.Request) (asked : List requests.Request) (xs : List X) (number : ℕ) → map request_of asked ≡ map f xs
+numbered : {X : Type 0} (f : X → asking.Request) (asked : List requests.Request) (xs : List X) (number : ℕ) → map request_of_client asked ≡ map f xs
     → number ≡ min (length asked + 1) (2 ^ 64 - 1) → number ≡ min (length xs + 1) (2 ^ 64 - 1)
 numbered f asked xs number same is = is ∙ ap (λ n. min (n + 1) (2 ^ 64 - 1)) (same_length f asked xs same)
 
 one_more :
-    {X : Type 0} (f : X → asking.Request) (asked : List requests.Request) (request : requests.Request) (xs : List X) (x : X) → map request_of asked ≡ map f xs
-    → request_of request ≡ f x → map request_of (asked ++ request ∷ []) ≡ map f (xs ++ x ∷ [])
+    {X : Type 0} (f : X → asking.Request) (asked : List requests.Request) (request : requests.Request) (xs : List X) (x : X) → map request_of_client asked ≡ map f xs
+    → request_of_client request ≡ f x → map request_of_client (asked ++ request ∷ []) ≡ map f (xs ++ x ∷ [])
 one_more f asked request xs x same means =
-    map_push request_of asked request
-    ∙ (ap (λ (rs : List asking.Request). rs ++ request_of request ∷ []) same
+    map_push request_of_client asked request
+    ∙ (ap (λ (rs : List asking.Request). rs ++ request_of_client request ∷ []) same
     ∙ (ap (λ r. map f xs ++ r ∷ []) means ∙ sym (map_push f xs x)))
 
 -- the requests hand in these parts, of which each is a text
 abbrev pub Sends : List ℕ → List requests.Request → Option (List ℕ) → Type 0
 Sends bytes asked rest =
-    (parts : List (List ℕ)) × AllByRecursion IsText parts × AreFirstParts bytes parts rest × (map request_of asked ≡ map asking.text parts)
+    (parts : List (List ℕ)) × AllByRecursion IsTextInput parts × AreFirstParts bytes parts rest × (map request_of_client asked ≡ map asking.text parts)
 
 pub sends_none : (bytes : List ℕ) → Sends bytes [] (Some bytes)
 sends_none bytes = ([], tt, (λ parts are. are), refl)
 
 pub sends_more :
     (bytes rest part : List ℕ) (asked : List requests.Request) (request : requests.Request) (after : Option (List ℕ)) → Sends bytes asked (Some rest)
-    → IsFirstPart rest part after → IsText part → request_of request ≡ asking.text part → Sends bytes (asked ++ request ∷ []) after
+    → IsFirstPart rest part after → IsTextInput part → request_of_client request ≡ asking.text part → Sends bytes (asked ++ request ∷ []) after
 sends_more bytes rest part asked request after s first is means = (
   s.0 ++ part ∷ [],
-  all_push IsText s.0 part s.1 is,
+  all_push IsTextInput s.0 part s.1 is,
   so_far_more bytes rest part s.0 after s.2 (next_part rest part after first),
   one_more asking.text asked request s.0 part s.3 means,
 )
@@ -66,10 +66,10 @@ pub sends_all : (bytes : List ℕ) (asked : List requests.Request) → Sends byt
 sends_all bytes asked s = (s.0, s.2, s.1, s.3)
 
 pub sends_not :
-    (bytes rest part : List ℕ) (asked : List requests.Request) (number : ℕ) (after : Option (List ℕ)) (stop : Stop) → Sends bytes asked (Some rest)
+    (bytes rest part : List ℕ) (asked : List requests.Request) (number : ℕ) (after : Option (List ℕ)) (stop : RunError) → Sends bytes asked (Some rest)
     → IsFirstPart rest part after → number ≡ min (length asked + 1) (2 ^ 64 - 1) → IsNoText part number stop → IsPartUnsent bytes stop
 sends_not bytes rest part asked number after stop s first is fault =
-    inl (part_refused IsText IsByteFault bytes rest part s.0 number after stop s.1 s.2 first (numbered asking.text asked s.0 number s.3 is) fault)
+    inl (part_refused IsTextInput IsByteFault bytes rest part s.0 number after stop s.1 s.2 first (numbered asking.text asked s.0 number s.3 is) fault)
 
 -- the pieces of a reader's bytes
 for_texts : (parts : List (List ℕ)) → map request_for (map text parts) ≡ map asking.text parts
@@ -80,12 +80,12 @@ pub texts_sent : (bytes : List ℕ) (asked : List requests.Request) → slice_ge
 texts_sent bytes asked first h =
     (map text h.0, (bytes, refl, inr (first, (h.0, h.1, refl))), all_texts CanBeSent h.0 h.2, h.3 ∙ sym (for_texts h.0))
 
-pub texts_unsent : (bytes : List ℕ) (stop : Stop) → slice_get bytes 0 ≢ Some 254 → IsPartUnsent bytes stop → IsUnsentOn (stream (Some bytes)) stop
-texts_unsent bytes stop first (inl h) = inl (parts_refused CanBeSent IsPieceFault bytes stop first h)
+pub texts_unsent : (bytes : List ℕ) (stop : RunError) → slice_get bytes 0 ≢ Some 254 → IsPartUnsent bytes stop → IsUnsentOn (stream (Some bytes)) stop
+texts_unsent bytes stop first (inl h) = inl (parts_refused CanBeSent IsRequestFault bytes stop first h)
 texts_unsent bytes stop first (inr memory) = inr (inr memory)
 
 pub state_sent :
-    (bytes : List ℕ) (request : requests.Request) → slice_get bytes 0 ≡ Some 254 → request_of request ≡ asking.state bytes
+    (bytes : List ℕ) (request : requests.Request) → slice_get bytes 0 ≡ Some 254 → request_of_client request ≡ asking.state bytes
     → AreRequests (stream (Some bytes)) ([] ++ request ∷ [])
 state_sent bytes request first means = (state bytes ∷ [], (bytes, refl, inl (first, refl)), (tt, tt), ap (λ r. r ∷ []) means)
 
@@ -96,13 +96,13 @@ pub sent_of_known :
 sent_of_known known bytes asked all h = (h.0, (bytes, all, subst (λ (b : List ℕ). AreStreamPieces b h.0) h.1.1 h.1.2), h.2, h.3)
 
 -- an input that is too long to be read is so where less is known of it
-long_of_known : (known : Option (List ℕ)) (bytes : List ℕ) → AreAll known bytes → IsLong (Some bytes) → IsLong known
+long_of_known : (known : Option (List ℕ)) (bytes : List ℕ) → AreAll known bytes → IsLongStop (Some bytes) → IsLongStop known
 long_of_known None bytes all long = tt
 long_of_known (Some x) bytes all long = subst (λ (b : List ℕ). read_limit ≤ length b) all long
 
 pub unsent_of_known :
-    (known : Option (List ℕ)) (bytes : List ℕ) (stop : Stop) → AreAll known bytes → IsUnsentOn (stream (Some bytes)) stop → IsUnsentOn (stream known) stop
-unsent_of_known known bytes stop all (inl h) = inl (refused_of_known CanBeSent IsPieceFault known bytes stop all h)
+    (known : Option (List ℕ)) (bytes : List ℕ) (stop : RunError) → AreAll known bytes → IsUnsentOn (stream (Some bytes)) stop → IsUnsentOn (stream known) stop
+unsent_of_known known bytes stop all (inl h) = inl (refused_of_known CanBeSent IsRequestFault known bytes stop all h)
 unsent_of_known known bytes stop all (inr (inl (inl device))) = inr (inl (inl device))
 unsent_of_known known bytes stop all (inr (inl (inr (inl (turns, long))))) = inr (inl (inr (inl (turns, long_of_known known bytes all long))))
 unsent_of_known known bytes stop all (inr (inl (inr (inr memory)))) = inr (inl (inr (inr memory)))
@@ -117,34 +117,34 @@ pub files_sent_more :
     → AreRequests (files known) asked → AreAll next bytes → IsFileRequest bytes request → AreRequests (files (known ++ next ∷ [])) (asked ++ request ∷ [])
 files_sent_more known next bytes asked request h all more = (
   h.0 ++ more.0 ∷ [],
-  along_push Gives known h.0 next more.0 h.1 (bytes, all, more.1),
+  along_push InputGives known h.0 next more.0 h.1 (bytes, all, more.1),
   all_push CanBeSent h.0 more.0 h.2 more.2,
   one_more request_for asked request h.0 more.0 h.3 more.3,
 )
 
 pub files_unsent :
-    (front back : List (Option (List ℕ))) (next : Option (List ℕ)) (asked : List requests.Request) (number : ℕ) (bytes : List ℕ) (stop : Stop)
+    (front back : List (Option (List ℕ))) (next : Option (List ℕ)) (asked : List requests.Request) (number : ℕ) (bytes : List ℕ) (stop : RunError)
     → AreRequests (files front) asked → AreAll next bytes → number ≡ min (length asked + 1) (2 ^ 64 - 1) → IsFileUnsent bytes number stop
     → IsUnsentOn (files (front ++ next ∷ back)) stop
 files_unsent front back next asked number bytes stop h all is fault =
-    inl (files_first_refused CanBeSent IsPieceFault front back next h.0 number bytes stop h.1 h.2 all (numbered request_for asked h.0 number h.3 is) fault)
+    inl (files_first_refused CanBeSent IsRequestFault front back next h.0 number bytes stop h.1 h.2 all (numbered request_for asked h.0 number h.3 is) fault)
 
 pub files_sent_unread :
-    (front back : List (Option (List ℕ))) (next : Option (List ℕ)) (asked : List requests.Request) (stop : Stop)
+    (front back : List (Option (List ℕ))) (next : Option (List ℕ)) (asked : List requests.Request) (stop : RunError)
     → AreRequests (files front) asked → IsUnreadable next stop → IsUnsentOn (files (front ++ next ∷ back)) stop
 files_sent_unread front back next asked stop h fault = inr (inl (files_unread CanBeSent front back next h.0 stop h.1 h.2 fault))
 
 -- a file that is one text
 pub file_text_sent :
     {E : Type 0} (bytes now : List ℕ) (r : Result requests.Request E) → now ≡ bytes → slice_get bytes 0 ≢ Some 254
-    → IfOk r (λ request. request_of request ≡ asking.text now) → OnOk r (IsText now) → IfOk r (IsFileRequest bytes)
+    → IfOk r (λ request. request_of_client request ≡ asking.text now) → OnOk r (IsTextInput now) → IfOk r (IsFileRequest bytes)
 file_text_sent bytes now (Ok request) is first means fits =
-    (text bytes, inr (first, refl), subst IsText is fits, means ∙ ap asking.text is)
+    (text bytes, inr (first, refl), subst IsTextInput is fits, means ∙ ap asking.text is)
 file_text_sent bytes now (Err e) is first means fits = tt
 
 pub file_text_unsent :
-    {T : Type 0} (bytes now : List ℕ) (number : ℕ) (r : Result T Stop) → now ≡ bytes → slice_get bytes 0 ≢ Some 254
-    → IfErr r (λ stop. IsNoText now number stop ⊎ IsMemory stop) → IfErr r (λ stop. IsFileUnsent bytes number stop ⊎ IsMemory stop)
+    {T : Type 0} (bytes now : List ℕ) (number : ℕ) (r : Result T RunError) → now ≡ bytes → slice_get bytes 0 ≢ Some 254
+    → IfErr r (λ stop. IsNoText now number stop ⊎ IsMemoryStop stop) → IfErr r (λ stop. IsFileUnsent bytes number stop ⊎ IsMemoryStop stop)
 file_text_unsent bytes now number (Ok x) is first h = tt
 file_text_unsent bytes now number (Err stop) is first (inl fault) =
     inl (text bytes, fault.0, inr (first, refl), subst (λ (b : List ℕ). IsByteFault b fault.0) is fault.2, fault.1)

@@ -6,7 +6,7 @@ use Rattle.std.proofs.lemmas.List.Quantifiers.{position-Some}
 use Rattle.std.proofs.lemmas.List.{append_assoc, length-append}
 use Rattle.std.proofs.lemmas.Bool.{eqb-true, false≢true, leb-true, leb-false}
 use Rattle.cue_replica.specs.Accepted.{text_limit}
-use Rattle.cue_program.specs.Parts.{lines_of, AreParts, IsSeparator, IsPart}
+use Rattle.cue_program.specs.Parts.{lines_of, ArePartsOfText, IsSeparator, IsPart}
 use Rattle.cue_program.specs.inner.Taking.{AreWholeLines, IsLineEnd, IsUnbroken}
 use Rattle.cue_program.proofs.Lines.{concat_push, none_breaks, part_push}
 use Rattle.cue_program.proofs.Texts.{some_parts}
@@ -84,29 +84,29 @@ one_line_more bytes line w ended other = record {
 }
 
 -- a part with lines in front of it
-behind_line : (line : List ℕ) (lines : List (List ℕ)) (part : List ℕ) (others : List (List ℕ)) → (IsSeparator line → ⊥) → AreParts lines (part ∷ others)
-    → AreParts (line ∷ lines) ((line ++ part) ∷ others)
+behind_line : (line : List ℕ) (lines : List (List ℕ)) (part : List ℕ) (others : List (List ℕ)) → (IsSeparator line → ⊥) → ArePartsOfText lines (part ∷ others)
+    → ArePartsOfText (line ∷ lines) ((line ++ part) ∷ others)
 behind_line line lines part [] other are = ((other, are.0), ap (λ (p : List ℕ). line ++ p) are.1)
 behind_line line lines part (next ∷ others) other are =
     (line ∷ are.0, are.1, are.2, ap (λ (ls : List (List ℕ)). line ∷ ls) are.3, (other, are.4), ap (λ (p : List ℕ). line ++ p) are.5, are.6, are.7)
 
-behind_lines : (front lines : List (List ℕ)) (part : List ℕ) (others : List (List ℕ)) → IsPart front → AreParts lines (part ∷ others)
-    → AreParts (front ++ lines) ((concat front ++ part) ∷ others)
+behind_lines : (front lines : List (List ℕ)) (part : List ℕ) (others : List (List ℕ)) → IsPart front → ArePartsOfText lines (part ∷ others)
+    → ArePartsOfText (front ++ lines) ((concat front ++ part) ∷ others)
 behind_lines [] lines part others h are = are
 behind_lines (line ∷ front) lines part others h are =
-    subst (λ (p : List ℕ). AreParts (line ∷ (front ++ lines)) (p ∷ others)) (sym (append_assoc line (concat front) part))
+    subst (λ (p : List ℕ). ArePartsOfText (line ∷ (front ++ lines)) (p ∷ others)) (sym (append_assoc line (concat front) part))
     (behind_line line (front ++ lines) (concat front ++ part) others h.0 (behind_lines front lines part others h.1 are))
 
-first_of : (lines : List (List ℕ)) → (part : List ℕ) × (others : List (List ℕ)) × AreParts lines (part ∷ others)
+first_of : (lines : List (List ℕ)) → (part : List ℕ) × (others : List (List ℕ)) × ArePartsOfText lines (part ∷ others)
 first_of lines = go (some_parts lines).0 (some_parts lines).1
   where
-    go : (parts : List (List ℕ)) → AreParts lines parts → (part : List ℕ) × (others : List (List ℕ)) × AreParts lines (part ∷ others)
+    go : (parts : List (List ℕ)) → ArePartsOfText lines parts → (part : List ℕ) × (others : List (List ℕ)) × ArePartsOfText lines (part ∷ others)
     go [] are = absurd are
     go (part ∷ others) are = (part, others, are)
 
 -- The first part of lines is too long.
 abbrev pub IsFirstLong : List (List ℕ) → Type 0
-IsFirstLong lines = (part : List ℕ) × (others : List (List ℕ)) × AreParts lines (part ∷ others) × (text_limit < length part)
+IsFirstLong lines = (part : List ℕ) × (others : List (List ℕ)) × ArePartsOfText lines (part ∷ others) × (text_limit < length part)
 
 long_separator : (line more : List ℕ) → 4 < length line → IsSeparator (line ++ more) → ⊥
 long_separator line more less (inl is) = absurd (omega (arith, less, ap (λ (l : List ℕ). length l) is, length-append line more))
@@ -120,8 +120,8 @@ first_is_long part [] more w plain less =
     let long = length-append part next.0 in (
       part ++ next.0,
       next.1,
-      subst (λ (ls : List (List ℕ)). AreParts ls ((part ++ next.0) ∷ next.1)) (sym (w.behind more))
-          (subst (λ (p : List ℕ). AreParts (w.lines ++ lines_of more) ((p ++ next.0) ∷ next.1)) w.joined
+      subst (λ (ls : List (List ℕ)). ArePartsOfText ls ((part ++ next.0) ∷ next.1)) (sym (w.behind more))
+          (subst (λ (p : List ℕ). ArePartsOfText (w.lines ++ lines_of more) ((p ++ next.0) ∷ next.1)) w.joined
           (behind_lines w.lines (lines_of more) next.0 next.1 w.part next.2)),
       omega (arith, less, long),
     )
@@ -130,10 +130,10 @@ first_is_long part (b ∷ line) more w plain less = go (nat_le (length (b ∷ li
     rest : List ℕ
     rest = (b ∷ line) ++ more
 
-    all : (p : List ℕ) (others : List (List ℕ)) → AreParts (lines_of rest) (p ∷ others) → AreParts (lines_of (part ++ rest)) ((part ++ p) ∷ others)
+    all : (p : List ℕ) (others : List (List ℕ)) → ArePartsOfText (lines_of rest) (p ∷ others) → ArePartsOfText (lines_of (part ++ rest)) ((part ++ p) ∷ others)
     all p others are =
-        subst (λ (ls : List (List ℕ)). AreParts ls ((part ++ p) ∷ others)) (sym (w.behind rest))
-        (subst (λ (q : List ℕ). AreParts (w.lines ++ lines_of rest) ((q ++ p) ∷ others)) w.joined
+        subst (λ (ls : List (List ℕ)). ArePartsOfText ls ((part ++ p) ∷ others)) (sym (w.behind rest))
+        (subst (λ (q : List ℕ). ArePartsOfText (w.lines ++ lines_of rest) ((q ++ p) ∷ others)) w.joined
         (behind_lines w.lines (lines_of rest) p others w.part are))
 
     go : (t : Bool) → nat_le (length (b ∷ line)) 4 ≡ t → IsFirstLong (lines_of (part ++ rest))
@@ -149,6 +149,6 @@ first_is_long part (b ∷ line) more w plain less = go (nat_le (length (b ∷ li
         let are = behind_line first begins.1 next.0 next.1 (long_separator (b ∷ line) begins.0 (omega (arith, long))) next.2 in (
           part ++ (first ++ next.0),
           next.1,
-          all (first ++ next.0) next.1 (subst (λ (ls : List (List ℕ)). AreParts ls ((first ++ next.0) ∷ next.1)) (sym begins.2) are),
+          all (first ++ next.0) next.1 (subst (λ (ls : List (List ℕ)). ArePartsOfText ls ((first ++ next.0) ∷ next.1)) (sym begins.2) are),
           omega (arith, less, length-append part (first ++ next.0), length-append first next.0, length-append (b ∷ line) begins.0),
         )

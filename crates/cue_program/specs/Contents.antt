@@ -5,6 +5,6 @@ use Rattle.cue_program.specs.declared.contents.Contents.{Contents}
 use Rattle.cue_program.specs.declared.contents.Contents.TheVariants as kinds
 
 -- its bytes
-abbrev pub bytes_of : Contents → List ℕ
-bytes_of (kinds.State site) = language.written site.now
-bytes_of (kinds.Bytes bytes) = bytes.now
+abbrev pub bytes_of_contents : Contents → List ℕ
+bytes_of_contents (kinds.State site) = language.written site.now
+bytes_of_contents (kinds.Bytes bytes) = bytes.now

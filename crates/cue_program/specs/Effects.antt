@@ -1,31 +1,31 @@
 -- What calls come to where each does what it says: what lies where before and after it.
 use Rattle.std.specs.Prelude.{◌≡◌, ◌⊎◌, ℕ, List, [], ◌++◌, Some, None, Bool, true, false, ⊤}
-use Rattle.cue_program.specs.Calls.{Call, looked_at, looked_behind, followed, created, opened}
-use Rattle.cue_program.specs.Calls.{asked_mode, set_mode, wrote, synced, renamed, removed, Puts}
-use Rattle.cue_program.specs.Files.{Holdings, IsElsewhereSame, IsPut}
+use Rattle.cue_program.specs.Calls.{FileCall, looked_at, looked_behind, followed, created, opened}
+use Rattle.cue_program.specs.Calls.{asked_mode, set_mode, wrote, synced, renamed, removed, PutsFile}
+use Rattle.cue_program.specs.Files.{Holdings, IsElsewhereSame, IsFilePut}
 use Rattle.cue_program.specs.Files.{IsUnharmed}
 use Rattle.cue_program.specs.Stopped.{StopsPutting}
-use Rattle.cue_program.specs.declared.shelf.Form.{Form}
-use Rattle.cue_program.specs.declared.shelf.Form.TheVariants as forms
+use Rattle.cue_program.specs.declared.files.FileForm.{FileForm}
+use Rattle.cue_program.specs.declared.files.FileForm.TheVariants as forms
 
 -- nothing changed
-abbrev pub Stays : Holdings → Holdings → Type 0
-Stays = IsElsewhereSame (λ place. ⊥)
+abbrev pub IsUnchanged : Holdings → Holdings → Type 0
+IsUnchanged = IsElsewhereSame (λ place. ⊥)
 
 -- nothing changed but what lies at the place
 abbrev pub IsTouchedAt : List ℕ → Holdings → Holdings → Type 0
 IsTouchedAt place = IsElsewhereSame (λ other. other ≡ place)
 
 -- such a thing stands under the name, which leads to itself where it is no link's
-abbrev pub Stands : List ℕ → Form → Holdings → Type 0
-Stands name forms.Nothing h =
+abbrev pub LiesAt : List ℕ → FileForm → Holdings → Type 0
+LiesAt name forms.Nothing h =
     (h.place_of name ≡ name) × (h.is_special name ≡ false) × (h.bytes_at name ≡ None)
-Stands name forms.File h = (h.place_of name ≡ name) × (h.is_special name ≡ false)
-Stands name forms.Link h = ⊤
-Stands name forms.Special h = (h.place_of name ≡ name) × (h.is_special name ≡ true)
+LiesAt name forms.File h = (h.place_of name ≡ name) × (h.is_special name ≡ false)
+LiesAt name forms.Link h = ⊤
+LiesAt name forms.Special h = (h.place_of name ≡ name) × (h.is_special name ≡ true)
 
 -- whether something special stands where a link leads to that is told so: nothing is special, too
-abbrev pub is_special_behind : Form → Bool
+abbrev pub is_special_behind : FileForm → Bool
 is_special_behind forms.File = false
 is_special_behind _ = true
 
@@ -56,45 +56,45 @@ pub record HasMoved (from to : List ℕ) (old new : Holdings) : Type 0 where
   pub gone : new.bytes_at from ≡ None
 
 -- What a call does, where an open file lies at a place, and a mode is a number.
-abbrev pub Does : {D M : Type 0} → (D → List ℕ) → (M → ℕ) → Call D M → Holdings → Holdings → Type 0
-Does at mode (looked_at name (Some form)) old new = Stays old new × Stands name form old
-Does at mode (looked_at name None) old new = Stays old new
-Does at mode (looked_behind name (Some form)) old new =
-    Stays old new × (old.is_special (old.place_of name) ≡ is_special_behind form)
-Does at mode (looked_behind name None) old new = Stays old new
-Does at mode (followed name (Some place)) old new =
-    Stays old new × (place ≡ old.place_of name) × (old.place_of place ≡ place)
-Does at mode (followed name None) old new = Stays old new
-Does at mode (created place (Some file)) old new = IsNewAt place old new × (at file ≡ place)
-Does at mode (created place None) old new = Stays old new
-Does at mode (opened name (Some file)) old new = Stays old new × (at file ≡ old.place_of name)
-Does at mode (opened name None) old new = Stays old new
-Does at mode (asked_mode place (Some m)) old new =
-    Stays old new × (mode m ≡ old.mode_at (old.place_of place))
-Does at mode (asked_mode place None) old new = Stays old new
-Does at mode (set_mode file m true) old new = HasMode (at file) (mode m) old new
-Does at mode (set_mode file m false) old new = IsTouchedAt (at file) old new
-Does at mode (wrote file piece file' true) old new =
+abbrev pub HasEffect : {D M : Type 0} → (D → List ℕ) → (M → ℕ) → FileCall D M → Holdings → Holdings → Type 0
+HasEffect at mode (looked_at name (Some form)) old new = IsUnchanged old new × LiesAt name form old
+HasEffect at mode (looked_at name None) old new = IsUnchanged old new
+HasEffect at mode (looked_behind name (Some form)) old new =
+    IsUnchanged old new × (old.is_special (old.place_of name) ≡ is_special_behind form)
+HasEffect at mode (looked_behind name None) old new = IsUnchanged old new
+HasEffect at mode (followed name (Some place)) old new =
+    IsUnchanged old new × (place ≡ old.place_of name) × (old.place_of place ≡ place)
+HasEffect at mode (followed name None) old new = IsUnchanged old new
+HasEffect at mode (created place (Some file)) old new = IsNewAt place old new × (at file ≡ place)
+HasEffect at mode (created place None) old new = IsUnchanged old new
+HasEffect at mode (opened name (Some file)) old new = IsUnchanged old new × (at file ≡ old.place_of name)
+HasEffect at mode (opened name None) old new = IsUnchanged old new
+HasEffect at mode (asked_mode place (Some m)) old new =
+    IsUnchanged old new × (mode m ≡ old.mode_at (old.place_of place))
+HasEffect at mode (asked_mode place None) old new = IsUnchanged old new
+HasEffect at mode (set_mode file m true) old new = HasMode (at file) (mode m) old new
+HasEffect at mode (set_mode file m false) old new = IsTouchedAt (at file) old new
+HasEffect at mode (wrote file piece file' true) old new =
     IsLonger (at file) piece old new × (at file' ≡ at file)
-Does at mode (wrote file piece file' false) old new =
+HasEffect at mode (wrote file piece file' false) old new =
     IsTouchedAt (at file) old new × (at file' ≡ at file)
-Does at mode (synced file done) old new = Stays old new
-Does at mode (renamed from to true) old new = HasMoved from to old new
-Does at mode (renamed from to false) old new = Stays old new
-Does at mode (removed place done) old new = IsTouchedAt place old new
+HasEffect at mode (synced file done) old new = IsUnchanged old new
+HasEffect at mode (renamed from to true) old new = HasMoved from to old new
+HasEffect at mode (renamed from to false) old new = IsUnchanged old new
+HasEffect at mode (removed place done) old new = IsTouchedAt place old new
 
 -- each call does what it says to what a shelf holds
-abbrev pub DoesAsTold : {S D M : Type 0} → (S → Call D M → S → Type 0) → (S → Holdings)
+abbrev pub CallsHaveEffects : {S D M : Type 0} → (S → FileCall D M → S → Type 0) → (S → Holdings)
     → (D → List ℕ) → (M → ℕ) → Type 0
-DoesAsTold {S} {D} {M} Makes held at mode =
-    (a b : S) (call : Call D M) → Makes a call b → Does at mode call (held a) (held b)
+CallsHaveEffects {S} {D} {M} Makes held at mode =
+    (a b : S) (call : FileCall D M) → Makes a call b → HasEffect at mode call (held a) (held b)
 
 -- Wherever each call does what it says, the calls that put bytes under a name put them there, and
 -- those that were made where they could not be put harm no file.
-pub record ArePut {S D M : Type 0} (Makes : S → Call D M → S → Type 0) : Type 0 where
+pub record ArePut {S D M : Type 0} (Makes : S → FileCall D M → S → Type 0) : Type 0 where
   pub puts : (held : S → Holdings) (at : D → List ℕ) (mode : M → ℕ)
-      → DoesAsTold Makes held at mode → (name bytes : List ℕ) (a b : S)
-      → Puts Makes name bytes a b → IsPut name bytes (held a) (held b)
+      → CallsHaveEffects Makes held at mode → (name bytes : List ℕ) (a b : S)
+      → PutsFile Makes name bytes a b → IsFilePut name bytes (held a) (held b)
   pub stops : (held : S → Holdings) (at : D → List ℕ) (mode : M → ℕ)
-      → DoesAsTold Makes held at mode → (name : List ℕ) (a b : S)
+      → CallsHaveEffects Makes held at mode → (name : List ℕ) (a b : S)
       → StopsPutting Makes name a b → IsUnharmed name (held a) (held b)

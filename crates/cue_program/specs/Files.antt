@@ -18,16 +18,16 @@ known_at None name = None
 known_at (Some held) name = held.bytes_at (held.place_of name)
 
 -- the bytes of borrowed words
-abbrev pub texts : List (Bor (List ℕ)) → List (List ℕ)
-texts words = map (λ word. word.now) words
+abbrev pub texts_of_files : List (Bor (List ℕ)) → List (List ℕ)
+texts_of_files words = map (λ word. word.now) words
 
 -- these are all the bytes, where they are known
 abbrev pub AreAll : Option (List ℕ) → List ℕ → Type 0
 AreAll known bytes = IfSome known (λ all. bytes ≡ all)
 
 -- these are all the bytes, where they are known, and no more than a memory can hold
-abbrev pub IsWhole : Option (List ℕ) → List ℕ → Type 0
-IsWhole known bytes = AreAll known bytes × (length bytes < 2 ^ 64)
+abbrev pub IsWholeFile : Option (List ℕ) → List ℕ → Type 0
+IsWholeFile known bytes = AreAll known bytes × (length bytes < 2 ^ 64)
 
 -- an opened file has the bytes that lie under its name still to give
 abbrev pub IsOpened : Option Holdings → List ℕ → Option (List ℕ) → Type 0
@@ -51,7 +51,7 @@ pub record IsElsewhereSame (places : List ℕ → Type 0) (old new : Holdings) :
 
 -- The bytes lie under the name, with the mode of the file that lay there, and all other files as
 -- before. What was written to something special is not told.
-pub record IsPut (name bytes : List ℕ) (old new : Holdings) : Type 0 where
+pub record IsFilePut (name bytes : List ℕ) (old new : Holdings) : Type 0 where
   pub put : old.is_special (old.place_of name) ≡ false
       → new.bytes_at (old.place_of name) ≡ Some bytes
   pub mode : (had : List ℕ) → old.is_special (old.place_of name) ≡ false

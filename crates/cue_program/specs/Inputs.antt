@@ -11,12 +11,12 @@ use Rattle.cue_replica.specs.Language.{Table, language}
 use Rattle.cue_replica.specs.declared.Kind.TheVariants as kinds
 use Rattle.cue_replica.specs.declared.Refusal.{Refusal}
 use Rattle.cue_program.specs.Files.{AreAll, Holdings, known_at}
-use Rattle.cue_program.specs.Parts.{lines_of, AreParts}
+use Rattle.cue_program.specs.Parts.{lines_of, ArePartsOfText}
 use Rattle.cue_program.specs.Stops.{IsRefusedAs, IsUnreadable}
-use Rattle.cue_program.specs.declared.kept.Enough.{Enough}
-use Rattle.cue_program.specs.declared.kept.Input.{Input}
-use Rattle.cue_program.specs.declared.kept.Input.TheVariants as read
-use Rattle.cue_program.specs.declared.stop.Stop.{Stop}
+use Rattle.cue_program.specs.declared.input_reader.Enough.{Enough}
+use Rattle.cue_program.specs.declared.input_reader.Input.{Input}
+use Rattle.cue_program.specs.declared.input_reader.Input.TheVariants as read
+use Rattle.cue_program.specs.declared.stop.RunError.{RunError}
 
 -- The inputs, in their order: files; or, where none is named, what a reader gives. Of each this is
 -- what it holds, where that is known.
@@ -31,9 +31,9 @@ inputs_of held (name ∷ names) known = files (map (known_at held) (name ∷ nam
 
 -- An input with these bytes was read: where the first is FE (hexadecimal), a reader of states has
 -- taken them in; and otherwise so much of them is kept.
-abbrev pub IsRead : {K : Type 0} → (K → List ℕ → Type 0) → Input K → List ℕ → Type 0
-IsRead IsKept (read.State reader len) bytes = (slice_get bytes 0 ≡ Some 254) × IsIntake bytes reader
-IsRead IsKept (read.Text kept) bytes = (slice_get bytes 0 ≢ Some 254) × IsKept kept bytes
+abbrev pub IsInputRead : {K : Type 0} → (K → List ℕ → Type 0) → Input K → List ℕ → Type 0
+IsInputRead IsKept (read.State reader len) bytes = (slice_get bytes 0 ≡ Some 254) × IsIntake bytes reader
+IsInputRead IsKept (read.Text kept) bytes = (slice_get bytes 0 ≢ Some 254) × IsKept kept bytes
 
 -- What is kept of these bytes tells what they are refused for, or is all of them: of a state all
 -- bytes are kept, and of any others no more than one beyond those that a text may have.
@@ -45,7 +45,7 @@ IsEnoughOf bytes kept =
 -- a file with these bytes was read, as many as a memory can hold: enough of a text is kept
 abbrev pub IsFileRead : Input Enough → List ℕ → Type 0
 IsFileRead file bytes =
-    IsRead (λ kept all. IsEnoughOf all kept.bytes.items) file bytes × (length bytes < 2 ^ 64)
+    IsInputRead (λ kept all. IsEnoughOf all kept.bytes.items) file bytes × (length bytes < 2 ^ 64)
 
 -- what a file hands in: a state where its first byte is FE (hexadecimal), and otherwise one text
 abbrev pub IsFilePiece : List ℕ → Piece → Type 0
@@ -59,28 +59,28 @@ abbrev pub AreStreamPieces : List ℕ → List Piece → Type 0
 AreStreamPieces bytes pieces =
     ((slice_get bytes 0 ≡ Some 254) × (pieces ≡ state bytes ∷ []))
     ⊎ ((slice_get bytes 0 ≢ Some 254)
-    × ((parts : List (List ℕ)) × AreParts (lines_of bytes) parts × (pieces ≡ map text parts)))
+    × ((parts : List (List ℕ)) × ArePartsOfText (lines_of bytes) parts × (pieces ≡ map text parts)))
 
 -- the file hands in the piece
-abbrev pub Gives : Option (List ℕ) → Piece → Type 0
-Gives known piece = (bytes : List ℕ) × AreAll known bytes × IsFilePiece bytes piece
+abbrev pub InputGives : Option (List ℕ) → Piece → Type 0
+InputGives known piece = (bytes : List ℕ) × AreAll known bytes × IsFilePiece bytes piece
 
 -- These inputs are these pieces.
-abbrev pub ArePieces : Inputs → List Piece → Type 0
-ArePieces (files known) pieces = AllAlong Gives known pieces
-ArePieces (stream known) pieces =
+abbrev pub AreInputPieces : Inputs → List Piece → Type 0
+AreInputPieces (files known) pieces = AllAlong InputGives known pieces
+AreInputPieces (stream known) pieces =
     (bytes : List ℕ) × AreAll known bytes × AreStreamPieces bytes pieces
 
 -- the first of these inputs are these pieces
-abbrev pub Begin : Inputs → List Piece → Type 0
-Begin (files known) pieces =
-    (front back : List (Option (List ℕ))) × (known ≡ front ++ back) × AllAlong Gives front pieces
-Begin (stream known) pieces =
-    (all more : List Piece) × ArePieces (stream known) all × (all ≡ pieces ++ more)
+abbrev pub AreFirstInputs : Inputs → List Piece → Type 0
+AreFirstInputs (files known) pieces =
+    (front back : List (Option (List ℕ))) × (known ≡ front ++ back) × AllAlong InputGives front pieces
+AreFirstInputs (stream known) pieces =
+    (all more : List Piece) × AreInputPieces (stream known) all × (all ≡ pieces ++ more)
 
 -- the table is valid, and the unification of the inputs, each of them acceptable
-abbrev pub Holds : Inputs → Table → Type 0
-Holds inputs table = (pieces : List Piece) × ArePieces inputs pieces × IsOfPieces table pieces
+abbrev pub IsUnified : Inputs → Table → Type 0
+IsUnified inputs table = (pieces : List Piece) × AreInputPieces inputs pieces × IsOfPieces table pieces
 
 -- why bytes are no text: they are too many; or else no UTF-8, at the place where the part that is
 -- ends
@@ -91,51 +91,51 @@ IsByteFault bytes why =
     × IsValidUpTo bytes why.place)
 
 -- the bytes are a text: they are not too many, and UTF-8
-abbrev pub IsText : List ℕ → Type 0
-IsText bytes = (length bytes ≤ text_limit) × IsUtf8 bytes
+abbrev pub IsTextInput : List ℕ → Type 0
+IsTextInput bytes = (length bytes ≤ text_limit) × IsUtf8 bytes
 
 -- Why a text is refused: its bytes are none; or else for a fault of its own, or for want of memory,
 -- which hides none that is found with no memory.
-abbrev pub IsTextRefusal : List ℕ → Refusal → Type 0
-IsTextRefusal bytes why =
+abbrev pub IsTextInputRefusal : List ℕ → Refusal → Type 0
+IsTextInputRefusal bytes why =
     IsByteFault bytes why
-    ⊎ (IsText bytes
+    ⊎ (IsTextInput bytes
     × (((why ≡ memory) × (language.IsTextRefusedAtOnce bytes → ⊥)) ⊎ language.IsTextFault bytes why))
 
 -- why a state is refused
-abbrev pub IsStateRefusal : List ℕ → Refusal → Type 0
-IsStateRefusal bytes why =
+abbrev pub IsStateInputRefusal : List ℕ → Refusal → Type 0
+IsStateInputRefusal bytes why =
     ((why ≡ memory) × (language.IsStateRefusedAtOnce bytes → ⊥)) ⊎ language.IsStateFault bytes why
 
 -- why a piece is refused
 abbrev pub IsPieceRefusal : Piece → Refusal → Type 0
-IsPieceRefusal (text bytes) why = IsTextRefusal bytes why
-IsPieceRefusal (state bytes) why = IsStateRefusal bytes why
+IsPieceRefusal (text bytes) why = IsTextInputRefusal bytes why
+IsPieceRefusal (state bytes) why = IsStateInputRefusal bytes why
 
 -- The first input that is refused for such a reason: those before it are fine, and it is told with
 -- its number from 1 (or the greatest number that can be told).
 pub record IsFirstRefused (IsFine : Piece → Type 0) (IsReason : Piece → Refusal → Type 0)
-    (inputs : Inputs) (stop : Stop) : Type 0 where
+    (inputs : Inputs) (stop : RunError) : Type 0 where
   pub before : List Piece
   pub piece : Piece
   pub why : Refusal
-  pub begin : Begin inputs (before ++ piece ∷ [])
+  pub begin : AreFirstInputs inputs (before ++ piece ∷ [])
   pub accepted : AllByRecursion IsFine before
   pub refusal : IsReason piece why
   pub told : IsRefusedAs why (min (length before + 1) (2 ^ 64 - 1)) stop
 
 -- The first input that can't be read: of files, those before it are fine.
-abbrev pub IsFirstUnread : (Piece → Type 0) → Inputs → Stop → Type 0
+abbrev pub IsFirstUnread : (Piece → Type 0) → Inputs → RunError → Type 0
 IsFirstUnread IsFine (files known) stop =
     (front back : List (Option (List ℕ))) × (next : Option (List ℕ)) × (pieces : List Piece)
-    × (known ≡ front ++ next ∷ back) × AllAlong Gives front pieces
+    × (known ≡ front ++ next ∷ back) × AllAlong InputGives front pieces
     × AllByRecursion IsFine pieces × IsUnreadable next stop
 IsFirstUnread IsFine (stream known) stop = IsUnreadable known stop
 
 -- the first input that a site refuses, and the first that can't be read behind inputs that it
 -- accepts
-abbrev pub IsInputRefused : Inputs → Stop → Type 0
+abbrev pub IsInputRefused : Inputs → RunError → Type 0
 IsInputRefused inputs stop = IsFirstRefused IsAcceptable IsPieceRefusal inputs stop
 
-abbrev pub IsInputUnread : Inputs → Stop → Type 0
+abbrev pub IsInputUnread : Inputs → RunError → Type 0
 IsInputUnread inputs stop = IsFirstUnread IsAcceptable inputs stop

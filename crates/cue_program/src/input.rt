@@ -1,11 +1,11 @@
 ghost use Rattle.std.specs.Prelude.{◌≡◌, ◌<◌, ◌≤◌, ◌+◌, ◌^◌, ℕ, List, length, IfOk, IfErr, OnOk};
 ghost use Rattle.std.specs.Prelude.{vec_len};
 ghost use Rattle.std.specs.Io.KnownBytes.{ReadConsumes};
-ghost use Rattle.cue_program.specs.Stops.{piece_size, read_limit, IsDevice, IsReadFault};
+ghost use Rattle.cue_program.specs.Stops.{piece_size, read_limit, IsDeviceStop, IsReadFault};
 ghost use Rattle.cue_program.specs.inner.Reading.{IsAllRead, IsRestFault, IsRestRead};
 
-use crate::kept::Kept;
-use crate::stop::Stop;
+use crate::input_reader::InputReader;
+use crate::stop::RunError;
 use cue_device::Source;
 use cue_replica::{Kind, Memory};
 use std::alloc::Global;
@@ -17,7 +17,7 @@ const PIECE: usize = 65_536;
 const MAX_READS: usize = 65_536;
 
 /// Room for what one read gives. It serves for one input after the other.
-pub fn room(alloc: Global) -> Result<Vec<u8>, Memory>
+pub fn new_buffer(alloc: Global) -> Result<Vec<u8>, Memory>
     ensures { IfOk result (λ piece. vec_len piece ≡ piece_size) }
 {
     Ok(vec![in alloc; 0u8; PIECE]?)
@@ -29,11 +29,11 @@ pub fn room(alloc: Global) -> Result<Vec<u8>, Memory>
 ///
 /// `Device` where a read fails, `TurnsUsed` where the end isn't found in 65,536 reads, and
 /// `Memory`.
-pub fn read_all<S: Source, K: Kept>(
+pub fn read_all<S: Source, K: InputReader>(
     alloc: Global,
     input: &mut S,
     piece: &mut [u8],
-) -> Result<K, Stop>
+) -> Result<K, RunError>
     requires room { length piece.old ≡ piece_size }
     requires calls { S.called input.old + read_limit < 2 ^ 64 }
     ensures room { length piece.new ≡ length piece.old }
@@ -51,7 +51,11 @@ pub fn read_all<S: Source, K: Kept>(
 }
 
 /// Reads an input to its end of which one piece was read.
-fn read_rest<S: Source, K: Kept>(input: &mut S, piece: &mut [u8], kept: &mut K) -> Result<(), Stop>
+fn read_rest<S: Source, K: InputReader>(
+    input: &mut S,
+    piece: &mut [u8],
+    kept: &mut K,
+) -> Result<(), RunError>
     requires room { length piece.old ≡ piece_size }
     requires calls { S.called input.old + read_limit ≤ 2 ^ 64 }
     ensures room { length piece.new ≡ length piece.old }
@@ -68,18 +72,18 @@ fn read_rest<S: Source, K: Kept>(input: &mut S, piece: &mut [u8], kept: &mut K) 
         }
         kept.go_on(&piece[..count])?;
     }
-    Err(Stop::Refused(Kind::TurnsUsed))
+    Err(RunError::Refused(Kind::TurnsUsed))
 }
 
 /// Reads once, and answers how many bytes that gave: none at the end.
-fn read_piece<S: Source>(input: &mut S, piece: &mut [u8]) -> Result<usize, Stop>
+fn read_piece<S: Source>(input: &mut S, piece: &mut [u8]) -> Result<usize, RunError>
     requires { S.called input.old + 1 < 2 ^ 64 }
     ensures room { length piece.new ≡ length piece.old }
     ensures counted { S.called input.new ≡ S.called input.old + 1 }
     ensures failures { OnOk result (S.failed input.new ≡ S.failed input.old) }
     ensures bound { IfOk result (λ count. count ≤ length piece.new) }
     ensures read { ReadConsumes (S.to_come input.old) (S.to_come input.new) result piece.new }
-    ensures fault { IfErr result (λ stop. IsDevice stop
+    ensures fault { IfErr result (λ stop. IsDeviceStop stop
         × (S.failed input.old < S.failed input.new)) }
 {
     Ok(input.read(piece)?)

@@ -4,40 +4,40 @@
 //! process it makes a request of each input.
 #![tactic(auto)]
 
+mod atomic_write;
+mod batch;
 mod contents;
 mod disk;
-mod draft;
-mod gathered;
+mod files;
 mod input;
-mod kept;
+mod input_reader;
 mod law;
-mod outlet;
-mod parts;
-mod putting;
+mod output;
 mod request;
 mod run;
-mod shelf;
+mod separator;
 mod site;
 mod state_file;
+mod stdin_splitter;
 mod stop;
-mod taking;
 mod telling;
+mod temp_file;
 mod writing;
 
+pub use atomic_write::put;
 pub use contents::Contents;
-pub use cue_answer::{Answer, Question, Status, answer_to, printed};
+pub use cue_answer::{Answer, SiteQuestion, Status, answer_to, to_printed};
 pub use cue_device::Fault;
 pub use cue_replica::{Kind, Memory, Refusal, Replica, StateReader};
 pub use cue_wire::Request;
-pub use kept::{Enough, Input, Kept};
+pub use files::{CreateError, FileForm, FileSystem};
+pub use input_reader::{Enough, Input, InputReader};
 pub use law::calls_put_the_bytes;
-pub use outlet::Outlet;
-pub use parts::{first_line, first_part};
-pub use putting::put;
+pub use output::Output;
 pub use request::requests_for;
 pub use run::{answer_for, merge_into, read_whole, site_for};
-pub use shelf::{Form, Shelf, Uncreated};
+pub use separator::{first_line, first_part};
 pub use site::{begins_a_state, take_file, text_of};
-pub use stop::Stop;
-pub use telling::{Untold, tell};
-pub use writing::tell_state;
+pub use stop::RunError;
+pub use telling::{WriteError, write_out};
+pub use writing::write_state;

@@ -2,21 +2,21 @@ ghost use Rattle.std.specs.Prelude.{◌≡◌, ◌⊎◌, ◌↔◌, ◌≤◌, 
 ghost use Rattle.std.specs.Prelude.{IsTrue, IfOk, IfErr, OnOk, OnErr};
 ghost use Rattle.std.specs.Str.{IsUtf8};
 ghost use Rattle.cue_replica.specs.Language.{language};
-ghost use Rattle.cue_replica.specs.Replica.{Adds};
+ghost use Rattle.cue_replica.specs.Replica.{AddsRefusals};
 ghost use Rattle.cue_lattice.specs.World.{Piece, piece_refuses};
 ghost use Rattle.cue_replica.specs.Accepted.{IsAcceptable, text_limit};
-ghost use Rattle.cue_program.specs.Inputs.{IsFilePiece, IsPieceRefusal, IsTextRefusal, stream};
-ghost use Rattle.cue_program.specs.Inputs.{IsStateRefusal, IsFileRead};
+ghost use Rattle.cue_program.specs.Inputs.{IsFilePiece, IsPieceRefusal, IsTextInputRefusal, stream};
+ghost use Rattle.cue_program.specs.Inputs.{IsStateInputRefusal, IsFileRead};
 ghost use Rattle.cue_replica.specs.Reading.{HasTakenIn};
-ghost use Rattle.cue_program.specs.Inputs.{Holds, IsByteFault, IsInputRefused, IsText};
-ghost use Rattle.cue_program.specs.Stops.{IsMemory, IsRefusedAs};
+ghost use Rattle.cue_program.specs.Inputs.{IsUnified, IsByteFault, IsInputRefused, IsTextInput};
+ghost use Rattle.cue_program.specs.Stops.{IsMemoryStop, IsRefusedAs};
 ghost use Rattle.cue_program.specs.inner.Taking.{IsStreamRead};
 ghost use Rattle.cue_program.specs.inner.Texts.{AreTexts, HasTakenParts, IsTextRefused};
 
-use crate::kept::{Enough, Input};
-use crate::parts::first_part;
-use crate::stop::Stop;
-use crate::taking::Texts;
+use crate::input_reader::{Enough, Input};
+use crate::separator::first_part;
+use crate::stdin_splitter::Texts;
+use crate::stop::RunError;
 use cue_replica::{Kind, Refusal, Replica, StateReader, TEXT_LIMIT};
 use std::alloc::Global;
 use std::str;
@@ -30,11 +30,11 @@ const STATE: u8 = 0xFE;
 /// # Errors
 ///
 /// `RefusedInput` for the first input that is refused, with its number from 1; `Memory`.
-pub fn site_of(alloc: Global, input: Input<Texts>) -> Result<Replica, Stop>
+pub fn site_of(alloc: Global, input: Input<Texts>) -> Result<Replica, RunError>
     ensures holds { (bytes : List ℕ) → IsStreamRead input bytes
-        → IfOk result (Holds (stream (Some bytes))) }
+        → IfOk result (IsUnified (stream (Some bytes))) }
     ensures stop { (bytes : List ℕ) → IsStreamRead input bytes
-        → IfErr result (λ stop. IsInputRefused (stream (Some bytes)) stop ⊎ IsMemory stop) }
+        → IfErr result (λ stop. IsInputRefused (stream (Some bytes)) stop ⊎ IsMemoryStop stop) }
 {
     match input {
         Input::State(reader, _) => {
@@ -51,10 +51,10 @@ pub fn site_of(alloc: Global, input: Input<Texts>) -> Result<Replica, Stop>
 /// # Errors
 ///
 /// `RefusedInput`, and then the site is as before.
-pub fn take_file(site: &mut Replica, file: Input<Enough>, number: usize) -> Result<(), Stop>
+pub fn take_file(site: &mut Replica, file: Input<Enough>, number: usize) -> Result<(), RunError>
     ensures accepts { (bytes : List ℕ) → IsFileRead file bytes
         → OnOk result ((piece : Piece) × IsFilePiece bytes piece
-        × IsAcceptable piece × Adds site.old (piece_refuses language piece) site.new) }
+        × IsAcceptable piece × AddsRefusals site.old (piece_refuses language piece) site.new) }
     ensures valid { OnOk result (language.IsValid site.new) }
     ensures refused { (bytes : List ℕ) → IsFileRead file bytes
         → IfErr result (λ stop. (piece : Piece) × (why : Refusal)
@@ -68,20 +68,20 @@ pub fn take_file(site: &mut Replica, file: Input<Enough>, number: usize) -> Resu
 }
 
 /// Hands a state that was taken in to a site, as the input of this number.
-fn take_state(site: &mut Replica, reader: StateReader, number: usize) -> Result<(), Stop>
+fn take_state(site: &mut Replica, reader: StateReader, number: usize) -> Result<(), RunError>
     ensures state { (bytes : List ℕ) → HasTakenIn reader bytes
         → OnOk result (language.IsState bytes) }
     ensures adds { (bytes : List ℕ) → HasTakenIn reader bytes
-        → OnOk result (Adds site.old (language.state_refuses bytes) site.new) }
+        → OnOk result (AddsRefusals site.old (language.state_refuses bytes) site.new) }
     ensures valid { OnOk result (language.IsValid site.new) }
     ensures refused { (bytes : List ℕ) → HasTakenIn reader bytes
-        → IfErr result (λ stop. (why : Refusal) × IsStateRefusal bytes why
+        → IfErr result (λ stop. (why : Refusal) × IsStateInputRefusal bytes why
         × IsRefusedAs why number stop) }
     ensures unchanged { OnErr result (site.new ≡ site.old) }
 {
     match site.take_read(reader) {
         Ok(()) => Ok(()),
-        Err(why) => Err(Stop::RefusedInput(why, number)),
+        Err(why) => Err(RunError::RefusedInput(why, number)),
     }
 }
 
@@ -93,7 +93,7 @@ pub fn begins_a_state(bytes: &[u8]) -> bool
 }
 
 /// Hands each part of these bytes to a site that has taken so many.
-pub fn take_parts(mut site: Replica, mut number: usize, bytes: &[u8]) -> Result<Replica, Stop>
+pub fn take_parts(mut site: Replica, mut number: usize, bytes: &[u8]) -> Result<Replica, RunError>
     ensures holds { (all : List ℕ) → HasTakenParts all site number (Some bytes.now)
         → IfOk result (AreTexts all) }
     ensures refused { (all : List ℕ) → HasTakenParts all site number (Some bytes.now)
@@ -110,27 +110,27 @@ pub fn take_parts(mut site: Replica, mut number: usize, bytes: &[u8]) -> Result<
 }
 
 /// Hands the input of this number to a site, as a text.
-pub fn submit(site: &mut Replica, part: &[u8], number: usize) -> Result<(), Stop>
+pub fn submit(site: &mut Replica, part: &[u8], number: usize) -> Result<(), RunError>
     ensures legal { OnOk result (language.IsLegal part.now) }
-    ensures adds { OnOk result (Adds site.old (language.text_refuses part.now) site.new) }
+    ensures adds { OnOk result (AddsRefusals site.old (language.text_refuses part.now) site.new) }
     ensures valid { OnOk result (language.IsValid site.new) }
     ensures refused { IfErr result (λ stop. (why : Refusal) ×
-        IsRefusedAs why number stop × IsTextRefusal part.now why) }
+        IsRefusedAs why number stop × IsTextInputRefusal part.now why) }
     ensures unchanged { OnErr result (site.new ≡ site.old) }
 {
     let text = match text_of(part) {
         Ok(text) => text,
-        Err(why) => return Err(Stop::RefusedInput(why, number)),
+        Err(why) => return Err(RunError::RefusedInput(why, number)),
     };
     match site.submit(text) {
         Ok(()) => Ok(()),
-        Err(why) => Err(Stop::RefusedInput(why, number)),
+        Err(why) => Err(RunError::RefusedInput(why, number)),
     }
 }
 
 /// The text in these bytes: neither too long, nor anything but UTF-8.
 pub fn text_of(bytes: &[u8]) -> Result<&str, Refusal>
-    ensures text { IfOk result (λ text. (text.now ≡ bytes.now) × IsText bytes.now) }
+    ensures text { IfOk result (λ text. (text.now ≡ bytes.now) × IsTextInput bytes.now) }
     ensures fault { IfErr result (IsByteFault bytes.now) }
 {
     if bytes.len() > TEXT_LIMIT {

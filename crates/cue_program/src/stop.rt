@@ -4,7 +4,7 @@ use std::alloc::{AllocError, AllocFailed};
 
 /// What ends a run before it has an answer.
 #[derive(Clone, Copy, Debug, PartialEq, Eq)]
-pub enum Stop {
+pub enum RunError {
     /// A file or a stream can't be opened, read or written.
     Device,
     /// A refusal of no single input.
@@ -13,42 +13,42 @@ pub enum Stop {
     RefusedInput(Refusal, usize),
 }
 
-impl From<Fault> for Stop {
-    ghost use Rattle.cue_program.specs.Stops.{IsDevice};
+impl From<Fault> for RunError {
+    ghost use Rattle.cue_program.specs.Stops.{IsDeviceStop};
 
-    ghost from_gives = { λ _ stop. IsDevice stop };
+    ghost from_gives = { λ _ stop. IsDeviceStop stop };
 
-    fn from(_fault: Fault) -> Stop {
-        Stop::Device
+    fn from(_fault: Fault) -> RunError {
+        RunError::Device
     }
 }
 
-impl From<Memory> for Stop {
-    ghost use Rattle.cue_program.specs.Stops.{IsMemory};
+impl From<Memory> for RunError {
+    ghost use Rattle.cue_program.specs.Stops.{IsMemoryStop};
 
-    ghost from_gives = { λ _ stop. IsMemory stop };
+    ghost from_gives = { λ _ stop. IsMemoryStop stop };
 
-    fn from(_memory: Memory) -> Stop {
-        Stop::Refused(Kind::Memory)
+    fn from(_memory: Memory) -> RunError {
+        RunError::Refused(Kind::Memory)
     }
 }
 
-impl From<AllocError> for Stop {
-    ghost use Rattle.cue_program.specs.Stops.{IsMemory};
+impl From<AllocError> for RunError {
+    ghost use Rattle.cue_program.specs.Stops.{IsMemoryStop};
 
-    ghost from_gives = { λ _ stop. IsMemory stop };
+    ghost from_gives = { λ _ stop. IsMemoryStop stop };
 
-    fn from(_error: AllocError) -> Stop {
-        Stop::Refused(Kind::Memory)
+    fn from(_error: AllocError) -> RunError {
+        RunError::Refused(Kind::Memory)
     }
 }
 
-impl<T: Drop> From<AllocFailed<T>> for Stop {
-    ghost use Rattle.cue_program.specs.Stops.{IsMemory};
+impl<T: Drop> From<AllocFailed<T>> for RunError {
+    ghost use Rattle.cue_program.specs.Stops.{IsMemoryStop};
 
-    ghost from_gives = { λ _ stop. IsMemory stop };
+    ghost from_gives = { λ _ stop. IsMemoryStop stop };
 
-    fn from(_error: AllocFailed<T>) -> Stop {
-        Stop::Refused(Kind::Memory)
+    fn from(_error: AllocFailed<T>) -> RunError {
+        RunError::Refused(Kind::Memory)
     }
 }

@@ -1,41 +1,42 @@
 //! Answers that are written while they are made.
 ghost use Rattle.std.specs.Prelude.{◌≡◌, ◌⊎◌, IfOk, IfErr, Option, List, ℕ, true};
 ghost use Rattle.cue_answer.specs.Answers.{line_end as end_of, of_text};
-ghost use Rattle.cue_program.specs.Outlets.{outlet_failed, outlet_inner, passed};
+ghost use Rattle.cue_program.specs.Outlets.{outlet_failed, outlet_inner, passage_of};
 ghost use Rattle.cue_program.specs.Runs.{IsAnswerAdded, IsAnswerCut};
-ghost use Rattle.cue_program.specs.Stops.{IsDevice, IsMemory};
+ghost use Rattle.cue_program.specs.Stops.{IsDeviceStop, IsMemoryStop};
 
-use crate::outlet::Outlet;
-use crate::stop::Stop;
-use crate::writing::tell_state;
-use cue_answer::{Question, Status, TextQuestion, TextSink, tell_answer};
+use crate::output::Output;
+use crate::stop::RunError;
+use crate::writing::write_state;
+use cue_answer::{SiteQuestion, Status, TextQuestion, TextSink, write_answer};
 use cue_replica::{Memory, Replica};
 use std::alloc::Global;
 use std::io::Write;
 
 /// Why a text was not written to its end.
 #[derive(Drop)]
-pub enum Untold {
+pub enum WriteError {
     /// A call of the stream failed.
     Device,
     Memory(Memory),
 }
 
-impl From<Memory> for Untold {
-    fn from(memory: Memory) -> Untold {
-        Untold::Memory(memory)
+impl From<Memory> for WriteError {
+    fn from(memory: Memory) -> WriteError {
+        WriteError::Memory(memory)
     }
 }
 
-impl<W: Write> TextSink for Outlet<W> {
-    type Halt = Untold;
+impl<W: Write> TextSink for Output<W> {
+    type SinkError = WriteError;
 
     ghost use Rattle.cue_program.specs.Outlets.{outlet_inner};
 
     ghost taken = { λ outlet. W.contents (outlet_inner outlet) };
 
-    fn put(&mut self, piece: &str) -> Result<(), Untold> {
-        self.hand_on(piece.as_bytes()).map_err(|_| Untold::Device)
+    fn put(&mut self, piece: &str) -> Result<(), WriteError> {
+        self.write_all(piece.as_bytes())
+            .map_err(|_| WriteError::Device)
     }
 }
 
@@ -45,44 +46,44 @@ impl<W: Write> TextSink for Outlet<W> {
 /// # Errors
 ///
 /// `Device` and `Memory`, after which the front of the answer may have been written.
-pub fn tell<W: Write>(
+pub fn write_out<W: Write>(
     alloc: Global,
-    question: Question,
+    question: SiteQuestion,
     site: &Replica,
-    out: &mut Outlet<W>,
-) -> Result<Status, Stop>
+    out: &mut Output<W>,
+) -> Result<Status, RunError>
     ensures told { IfOk result
-        (IsAnswerAdded question site.now (passed W.contents out.old out.new)) }
+        (IsAnswerAdded question site.now (passage_of W.contents out.old out.new)) }
     ensures cut { IfErr result
-        (IsAnswerCut question site.now (passed W.contents out.old out.new)) }
+        (IsAnswerCut question site.now (passage_of W.contents out.old out.new)) }
 {
     match question.as_text() {
         None => {
-            tell_state(alloc, site, out)?;
+            write_state(alloc, site, out)?;
             Ok(Status::Done)
         }
-        Some(question) => tell_text(alloc, question, site, out),
+        Some(question) => write_text(alloc, question, site, out),
     }
 }
 
 /// Writes what a site answers in a text.
-fn tell_text<W: Write>(
+fn write_text<W: Write>(
     alloc: Global,
     question: TextQuestion,
     site: &Replica,
-    out: &mut Outlet<W>,
-) -> Result<Status, Stop>
+    out: &mut Output<W>,
+) -> Result<Status, RunError>
     ensures told { IfOk result
-        (IsAnswerAdded (of_text question) site.now (passed W.contents out.old out.new)) }
+        (IsAnswerAdded (of_text question) site.now (passage_of W.contents out.old out.new)) }
     ensures cut { IfErr result
-        (IsAnswerCut (of_text question) site.now (passed W.contents out.old out.new)) }
+        (IsAnswerCut (of_text question) site.now (passage_of W.contents out.old out.new)) }
 {
-    match tell_answer(alloc, question, site, out) {
+    match write_answer(alloc, question, site, out) {
         Ok(status) => {
-            out.tell(line_end(question, status))?;
+            out.write_out(line_end(question, status))?;
             Ok(status)
         }
-        Err(untold) => Err(stopped(untold, out)),
+        Err(untold) => Err(write_stop(untold, out)),
     }
 }
 
@@ -97,15 +98,15 @@ fn line_end(question: TextQuestion, status: Status) -> &'static [u8]
 }
 
 /// What stops a run whose text was not written to its end.
-fn stopped<W: Write>(untold: Untold, out: &mut Outlet<W>) -> Stop
-    ensures stop { (IsDevice result × (outlet_failed out.new ≡ true)) ⊎ IsMemory result }
+fn write_stop<W: Write>(untold: WriteError, out: &mut Output<W>) -> RunError
+    ensures stop { (IsDeviceStop result × (outlet_failed out.new ≡ true)) ⊎ IsMemoryStop result }
     ensures kept { outlet_inner out.new ≡ outlet_inner out.old }
 {
     match untold {
-        Untold::Device => {
+        WriteError::Device => {
             out.fail();
-            Stop::Device
+            RunError::Device
         }
-        Untold::Memory(memory) => Stop::from(memory),
+        WriteError::Memory(memory) => RunError::from(memory),
     }
 }

@@ -1,10 +1,10 @@
 ghost use Rattle.std.specs.Prelude.{◌<◌, length, OnOk, IfErr};
 ghost use Rattle.cue_replica.specs.Language.{language};
-ghost use Rattle.cue_program.specs.Outlets.{Adds, IsUntold, passed};
+ghost use Rattle.cue_program.specs.Outlets.{AddsBytes, IsWriteFailed, passage_of};
 
-use crate::input::room;
-use crate::outlet::Outlet;
-use crate::stop::Stop;
+use crate::input::new_buffer;
+use crate::output::Output;
+use crate::stop::RunError;
 use cue_replica::{Replica, StateWriter};
 use std::alloc::Global;
 use std::io::Write;
@@ -15,34 +15,38 @@ use std::io::Write;
 ///
 /// `Device`, after which a part of the bytes may have been written; and `Memory`, after which just
 /// the pieces in front were.
-pub fn tell_state<W: Write>(alloc: Global, site: &Replica, out: &mut Outlet<W>) -> Result<(), Stop>
+pub fn write_state<W: Write>(
+    alloc: Global,
+    site: &Replica,
+    out: &mut Output<W>,
+) -> Result<(), RunError>
     ensures written { OnOk result
-        (Adds (passed W.contents out.old out.new) (language.written site.now)) }
+        (AddsBytes (passage_of W.contents out.old out.new) (language.written site.now)) }
     ensures untold { IfErr result
-        (IsUntold (passed W.contents out.old out.new) (language.written site.now)) }
+        (IsWriteFailed (passage_of W.contents out.old out.new) (language.written site.now)) }
 {
-    let mut piece = room(alloc)?;
+    let mut piece = new_buffer(alloc)?;
     let mut state = site.state_writer()?;
-    tell_rest(&mut state, &mut piece, out)?;
+    write_rest(&mut state, &mut piece, out)?;
     out.flush()?;
     Ok(())
 }
 
 /// Hands on all bytes that a writer of states has left, in pieces that fill this room.
-fn tell_rest<W: Write>(
+fn write_rest<W: Write>(
     state: &mut StateWriter<'_>,
     piece: &mut [u8],
-    out: &mut Outlet<W>,
-) -> Result<(), Stop>
+    out: &mut Output<W>,
+) -> Result<(), RunError>
     requires { 0 < length piece.old }
-    ensures written { OnOk result (Adds (passed W.contents out.old out.new) state.old) }
-    ensures untold { IfErr result (IsUntold (passed W.contents out.old out.new) state.old) }
+    ensures written { OnOk result (AddsBytes (passage_of W.contents out.old out.new) state.old) }
+    ensures untold { IfErr result (IsWriteFailed (passage_of W.contents out.old out.new) state.old) }
 {
     'pieces: loop {
         let count = state.fill(piece)?;
         if count == 0 {
             return Ok(());
         }
-        out.hand_on(&piece[..count])?;
+        out.write_all(&piece[..count])?;
     }
 }

@@ -5,18 +5,18 @@ use Rattle.cue_lattice.specs.Question.{Refusals, SameAnswers}
 use Rattle.cue_lattice.specs.World.{Piece, piece_refuses, pieces_refuse, IsUnified}
 use Rattle.cue_lattice.specs.World as world
 use Rattle.cue_lattice.proofs.OneOf.{one_of-append}
-use Rattle.cue_row.specs.Row.{Refuses, RowRefuses}
-use Rattle.cue_row.specs.Questions.{asked_by}
+use Rattle.cue_row.specs.Row.{RefusesAsked, RowRefusesQuestion}
+use Rattle.cue_row.specs.Questions.{asked_by_question}
 use Rattle.cue_table.specs.Meet.{IsMet}
 use Rattle.cue_table.specs.Refuses.{TableRefuses}
 use Rattle.cue_replica.specs.Language.{Table, language}
-use Rattle.cue_replica.specs.Replica.{Adds}
+use Rattle.cue_replica.specs.Replica.{AddsRefusals}
 use Rattle.cue_replica.proofs.Asked.{asked}
 
 -- a meet with a table adds what that table refuses
-pub adds_met : (old more new : Table) (added : Refusals) → IsMet Refuses old more new → SameAnswers (TableRefuses RowRefuses more) added → Adds old added new
+pub adds_met : (old more new : Table) (added : Refusals) → IsMet RefusesAsked old more new → SameAnswers (TableRefuses RowRefusesQuestion more) added → AddsRefusals old added new
 adds_met old more new added met same path question =
-    let m = met path (asked_by question) in
+    let m = met path (asked_by_question question) in
     let s = same path question in
     let before = asked old path question in
     let other = asked more path question in
@@ -31,7 +31,7 @@ one_piece piece path question = (λ h. inl h, ⊎_elim (λ h. h) (λ h. absurd h
 
 -- more pieces for a site, by what they refuse
 pub unified_more :
-    (old new : Table) (added : Refusals) (pieces more : List Piece) → IsUnified language old pieces → Adds old added new
+    (old new : Table) (added : Refusals) (pieces more : List Piece) → IsUnified language old pieces → AddsRefusals old added new
     → language.IsValid new → SameAnswers added (pieces_refuse language more)
     → IsUnified language new (pieces ++ more)
 unified_more old new added pieces more unified adds valid same = (
@@ -47,12 +47,12 @@ unified_more old new added pieces more unified adds valid same = (
 )
 
 -- a set of pieces refuses what another set of the same pieces does
-one_of_same : (P : Piece → Type 0) (a b : List Piece) → ((piece : Piece) → world.Has a piece → world.Has b piece) → OneOf P a → OneOf P b
+one_of_same : (P : Piece → Type 0) (a b : List Piece) → ((piece : Piece) → world.IsInSet a piece → world.IsInSet b piece) → OneOf P a → OneOf P b
 one_of_same P [] b sub h = absurd h
 one_of_same P (x ∷ a) b sub h =
     ⊎_elim (λ p. holds_at P b x (sub x (inl refl)) p) (λ p. one_of_same P a b (λ piece k. sub piece (inr k)) p) h
   where
-    holds_at : (P : Piece → Type 0) (b : List Piece) (x : Piece) → world.Has b x → P x → OneOf P b
+    holds_at : (P : Piece → Type 0) (b : List Piece) (x : Piece) → world.IsInSet b x → P x → OneOf P b
     holds_at P [] x h p = absurd h
     holds_at P (y ∷ b) x h p = ⊎_elim (λ e. inl (subst P (sym e) p)) (λ k. inr (holds_at P b x k p)) h
 

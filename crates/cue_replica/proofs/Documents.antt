@@ -6,27 +6,27 @@ use Rattle.cue_lattice.specs.Meets.{Meets}
 use Rattle.cue_lattice.specs.Question.{Refusals}
 use Rattle.cue_lattice.specs.World.{Piece, AllAlong, IsUnified, IsAdmitted, IsExactOnDocuments, pieces_refuse}
 use Rattle.cue_lattice.proofs.Meeting.{each, less, same, admitted_meets, meeting_is_admitted}
-use Rattle.cue_row.specs.Row.{RowRefuses}
+use Rattle.cue_row.specs.Row.{RowRefusesQuestion}
 use Rattle.cue_table.specs.Refuses.{TableRefuses}
 use Rattle.cue_syntax.specs.Syntax.{FileTree}
 use Rattle.cue_scope.specs.Meaning.{meant_text}
 use Rattle.cue_eval.specs.Texts as meaning
-use Rattle.cue_documents.proofs.Exact.{exact}
+use Rattle.document_laws.proofs.Exact.{exact}
 use Rattle.serde_json.specs.Data.{Data}
 use Rattle.serde_json.specs.Written.{compact_text}
 use Rattle.cue_report.specs.declared.outcome.Export.TheVariants.{Json}
-use Rattle.cue_report.specs.Documents.{Tells}
+use Rattle.cue_report.specs.Documents.{IsDocumentOf}
 use Rattle.cue_report.specs.Picks.{IsPicked}
 use Rattle.cue_report.proofs.Exact.{tells_export}
 use Rattle.cue_report.proofs.Existing.{exists, free_of_conflicts}
-use Rattle.cue_replica.specs.Documents.{TellsAdmitted, IsOfChosen, IsExactSite}
+use Rattle.cue_replica.specs.Documents.{IsAdmittedDocument, IsOfChosen, IsExactSite}
 use Rattle.cue_replica.specs.Language.{Table, language}
-use Rattle.cue_replica.specs.Reports.{IsExportOf}
+use Rattle.cue_replica.specs.Reports.{IsExportOfTable}
 use Rattle.cue_replica.specs.States.{IsTableOf, state_refuses, state_admits}
 use Rattle.cue_replica.specs.Texts.{IsTreeOf, text_refuses, text_admits}
 
 abbrev tree_refuses : FileTree → Refusals
-tree_refuses tree = meaning.text_refuses tree.declarations
+tree_refuses tree = meaning.meaning_refuses tree.declarations
 
 texts : (text : List ℕ) (d : Document) → IsDocument d → text_admits text d ↔ Meets (text_refuses text) d
 texts text d is = (
@@ -37,8 +37,8 @@ texts text d is = (
 
 states : (bytes : List ℕ) (d : Document) → IsDocument d → state_admits bytes d ↔ Meets (state_refuses bytes) d
 states bytes d is = (
-  λ h. each (IsTableOf bytes) (TableRefuses RowRefuses) d h,
-  λ m table of. less (state_refuses bytes) (TableRefuses RowRefuses table) (λ path question g. (table, of, g)) d m,
+  λ h. each (IsTableOf bytes) (TableRefuses RowRefusesQuestion) d h,
+  λ m table of. less (state_refuses bytes) (TableRefuses RowRefusesQuestion table) (λ path question g. (table, of, g)) d m,
 )
 
 pub exact_language : IsExactOnDocuments Table language
@@ -52,11 +52,11 @@ admitted_is table pieces unified d is =
       λ m. meeting_is_admitted Table language exact_language pieces d is (answers.0 m),
     )
 
-tells : (table : Table) (pieces : List Piece) → IsUnified language table pieces → (told : Data) → Tells IsPicked (language.table_refuses table) told → TellsAdmitted pieces told
+tells : (table : Table) (pieces : List Piece) → IsUnified language table pieces → (told : Data) → IsDocumentOf IsPicked (language.table_refuses table) told → IsAdmittedDocument pieces told
 tells table pieces unified told h = record { document = h.document; admitted = (admitted_is table pieces unified h.document h.is).1 h.meets; json = h.json }
 
-exports : (table : Table) (pieces : List Piece) → IsUnified language table pieces → (text : String Global) → IsExportOf table (Json text)
-    → (told : Data) × TellsAdmitted pieces told × IsOfChosen table told × (string_bytes text ≡ compact_text told)
+exports : (table : Table) (pieces : List Piece) → IsUnified language table pieces → (text : String Global) → IsExportOfTable table (Json text)
+    → (told : Data) × IsAdmittedDocument pieces told × IsOfChosen table told × (string_bytes text ≡ compact_text told)
 exports table pieces unified text (free, gaps, (told, shape, e)) =
     let h = tells_export table told unified.0 free shape in (
       told,

@@ -9,11 +9,11 @@ use Rattle.cue_replica.proofs.Lexed.{words, lexed}
 use Rattle.cue_syntax.specs.declared.tree.LabelName.TheVariants as names
 use Rattle.cue_syntax.specs.declared.tree.Mark.TheVariants as marks
 use Rattle.cue_syntax.specs.declared.tree.Sign.TheVariants as signs
-use Rattle.cue_syntax.specs.Grammar.{at_most, IsFile}
+use Rattle.cue_syntax.specs.Grammar.{at_most, IsFileTree}
 use Rattle.cue_syntax.specs.Syntax.{FileTree, Entries, no_entries, entry, field, integer}
 use Rattle.cue_scope.specs.Graph.{IsAcyclic, IsReached, start, go_on}
 use Rattle.cue_scope.specs.Refusing as checks
-use Rattle.cue_replica.specs.Texts.{IsLegal}
+use Rattle.cue_replica.specs.Texts.{IsLegalText}
 
 abbrev declarations : Entries
 declarations =
@@ -24,7 +24,7 @@ declarations =
 abbrev tree : FileTree
 tree = record { package_clause = None; declarations = declarations; comma = false }
 
-spelled : IsFile (at_most level_limit) words tree
+spelled : IsFileTree (at_most level_limit) words tree
 spelled = record {
   reads = record { follows = (refl, tt, (refl, tt, (refl, tt, refl))) };
   clause = tt;
@@ -39,7 +39,7 @@ acyclic i h = none i h where
   none j (start j' h) = h
   none j (go_on k j' h p) = none k h
 
-passes : checks.IsLegal declarations
+passes : checks.IsLegalTree declarations
 passes = record {
   small = record {
     scalar = record {
@@ -58,5 +58,5 @@ utf8 : IsUtf8 (codes "a: 1")
 unfolding is_utf8 chars encode
 utf8 = IsUtf8-from_is_utf8 (codes "a: 1") refl
 
-pub legal_text : IsLegal (codes "a: 1")
+pub legal_text : IsLegalText (codes "a: 1")
 legal_text = (tree, record { words = words; lexed = lexed; spelled = spelled }, passes, utf8)

@@ -9,8 +9,8 @@ use Rattle.cue_lex.specs.declared.token.Token.{Token}
 use Rattle.cue_lex.specs.declared.token.TokenKind.TheVariants as kinds
 use Rattle.cue_lex.specs.Characters.{is_letter, is_name_part}
 use Rattle.cue_lex.specs.Integers.{literal_number, digits_number}
-use Rattle.cue_lex.specs.Lexemes.{lexeme, integer, name, name_kind}
-use Rattle.cue_lex.specs.Marks.{mark, single_mark}
+use Rattle.cue_lex.specs.Lexemes.{lexeme, integer, lex_name, name_kind}
+use Rattle.cue_lex.specs.Marks.{mark_in_front, single_mark}
 use Rattle.cue_lex.specs.Names.{identifier_len, word_len, run_len, signed_len}
 use Rattle.cue_lex.specs.Tokens.{tokens}
 
@@ -22,5 +22,5 @@ words =
     []
 
 pub lexed : tokens (codes "a: 1") ≡ Ok words
-unfolding tokens lexeme integer literal_number digits_number name name_kind identifier_len word_len run_len signed_len is_letter is_name_part ucd_category mark single_mark chars encode
+unfolding tokens lexeme integer literal_number digits_number lex_name name_kind identifier_len word_len run_len signed_len is_letter is_name_part ucd_category mark_in_front single_mark chars encode
 lexed = refl

@@ -8,42 +8,42 @@ use Rattle.cue_lattice.specs.Refusal.{refusal_at}
 use Rattle.cue_table.specs.Tree.{empty}
 use Rattle.cue_table.specs.Valid.{IsValidTable}
 use Rattle.cue_table.proofs.ValidWalks.{empty_valid}
-use Rattle.cue_codec.specs.Decoding.{IsOtherVersion, IsNoState, IsUndecoded, IsRejected}
-use Rattle.cue_codec.specs.Pieces.{Intake, so_far, other_version, no_state, failed, BeginsNoState, IsIntake, IsTakenIn, IsReadTable, IsUnread}
-use Rattle.cue_codec.specs.State.{mark, table_bytes, IsTableBytes}
+use Rattle.cue_codec.specs.Decoding.{IsOtherStateVersion, IsNoState, IsUndecoded, IsRejected}
+use Rattle.cue_codec.specs.Pieces.{Intake, so_far, other_version, no_state, failed, IsNoStatePrefix, IsIntake, IsTakenIn, IsReadTable, IsIntakeUnread}
+use Rattle.cue_codec.specs.State.{state_mark, table_bytes, IsTableBytes}
 use Rattle.cue_codec.proofs.ReadStates.{one_table}
 use Rattle.cue_codec.proofs.WrittenStates.{state_parts}
-use Rattle.cue_replica.specs.Inner.Reads.{Reads}
+use Rattle.cue_replica.specs.Inner.Reads.{ReadsTable}
 use Rattle.cue_replica.specs.Language.{Table}
-use Rattle.cue_replica.specs.Reading.{HasTakenIn, StandsAt, AreReadInPieces}
+use Rattle.cue_replica.specs.Reading.{HasTakenIn, HasFaultAt, AreReadInPieces}
 use Rattle.cue_replica.specs.States.{IsStateFault}
 use Rattle.cue_replica.proofs.Sound.{own_table}
 
 -- bytes that are read at once
 pub read_at_once :
     (bytes : List ℕ) (read : Result Table Kind) → IfOk read IsValidTable → IfOk read (IsTableBytes bytes)
-    → IfErr read (IsUndecoded bytes) → Reads bytes read
+    → IfErr read (IsUndecoded bytes) → ReadsTable bytes read
 read_at_once bytes (Ok table) valid spelled refused = record { valid = valid; spelled = spelled }
 read_at_once bytes (Err kind) valid spelled refused = refused
 
 -- the bytes of the opening table, where they are read, are read as that table
 pub reads_opening :
-    (bytes : List ℕ) (read : Result Table Kind) → length bytes < 2 ^ 64 → Reads bytes read → is_ok read ≡ true
+    (bytes : List ℕ) (read : Result Table Kind) → length bytes < 2 ^ 64 → ReadsTable bytes read → is_ok read ≡ true
     → IsTableBytes bytes empty → read ≡ Ok empty
 reads_opening bytes (Ok table) held reads ok is = ap Ok (one_table table empty bytes reads.valid empty_valid held reads.spelled is)
 reads_opening bytes (Err kind) held reads ok is = absurd (false≢true ok)
 
 -- bytes with which no state begins are those of none
-begun_none : (bytes : List ℕ) → length bytes < 2 ^ 64 → BeginsNoState bytes → IsNoState bytes
+begun_none : (bytes : List ℕ) → length bytes < 2 ^ 64 → IsNoStatePrefix bytes → IsNoState bytes
 begun_none bytes held none = subst IsNoState (append-nil bytes) (
     λ tree sound told. none tree [] sound (subst (λ b. length b < 2 ^ 64) (sym (append-nil bytes)) held) told)
 
 -- bytes that a reader was handed
 pub read_in_pieces :
     (bytes : List ℕ) (intake : Intake) (read : Result Table Kind) → HasTakenIn intake bytes → IfOk read IsValidTable
-    → IfOk read (IsReadTable intake) → IfErr read (IsUnread intake) → Reads bytes read
+    → IfOk read (IsReadTable intake) → IfErr read (IsIntakeUnread intake) → ReadsTable bytes read
 read_in_pieces bytes (so_far taken) read is valid spelled refused =
-    subst (λ b. Reads b read) is.0 (read_at_once taken read valid spelled refused)
+    subst (λ b. ReadsTable b read) is.0 (read_at_once taken read valid spelled refused)
 read_in_pieces bytes other_version (Ok table) is valid spelled refused = absurd spelled
 read_in_pieces bytes other_version (Err kind) is valid spelled refused = inr (inl (refused, is.0))
 read_in_pieces bytes no_state (Ok table) is valid spelled refused = absurd spelled
@@ -53,8 +53,8 @@ read_in_pieces bytes failed read is valid spelled refused = absurd is.0
 
 -- a fault at which a reader stands is what reading comes to
 pub read_as_it_stands :
-    (intake : Intake) (kind : Kind) (read : Result Table Kind) → StandsAt intake kind
-    → IfOk read (IsReadTable intake) → IfErr read (IsUnread intake) → read ≡ Err kind
+    (intake : Intake) (kind : Kind) (read : Result Table Kind) → HasFaultAt intake kind
+    → IfOk read (IsReadTable intake) → IfErr read (IsIntakeUnread intake) → read ≡ Err kind
 read_as_it_stands (so_far bytes) kind read stands spelled refused = absurd stands
 read_as_it_stands other_version kind (Ok table) stands spelled refused = absurd spelled
 read_as_it_stands other_version kind (Err other) stands spelled refused = ap (λ (k : Kind). Err k) (refused ∙ sym stands)
@@ -64,20 +64,20 @@ read_as_it_stands failed kind (Ok table) stands spelled refused = absurd spelled
 read_as_it_stands failed kind (Err other) stands spelled refused = ap (λ (k : Kind). Err k) (refused ∙ sym stands)
 
 -- how the state of a table without rows begins
-opening_bytes : table_bytes empty ≡ mark ++ (2 ∷ (to_be_bytes w64 0 ++ []))
+opening_bytes : table_bytes empty ≡ state_mark ++ (2 ∷ (to_be_bytes w64 0 ++ []))
 opening_bytes = state_parts []
 
 opening_held : length (table_bytes empty) < 2 ^ 64
 opening_held = subst (λ b. length b < 2 ^ 64) (sym opening_bytes) (lit< tt)
 
 -- what that state begins with begins a state
-begins_some : (front back : List ℕ) → BeginsNoState front → front ++ back ≡ table_bytes empty → ⊥
+begins_some : (front back : List ℕ) → IsNoStatePrefix front → front ++ back ≡ table_bytes empty → ⊥
 begins_some front back none is =
     none empty back empty_valid (subst (λ b. length b < 2 ^ 64) (sym is) opening_held)
     (subst (λ b. IsTableBytes b empty) (sym is) (own_table empty empty_valid).spelled)
 
 -- bytes with which no state begins, and no other version, are not those of another version whatever follows them
-stays_known : (bytes rest : List ℕ) → BeginsNoState bytes → ¬ IsOtherVersion bytes → ¬ IsOtherVersion (bytes ++ rest)
+stays_known : (bytes rest : List ℕ) → IsNoStatePrefix bytes → ¬ IsOtherStateVersion bytes → ¬ IsOtherStateVersion (bytes ++ rest)
 stays_known [] rest none known (version, more, is, unknown) = begins_some [] (table_bytes empty) none refl
 stays_known (a ∷ []) rest none known (version, more, is, unknown) =
     let back : List ℕ = 67 ∷ 85 ∷ 69 ∷ 2 ∷ (to_be_bytes w64 0 ++ []) in
@@ -100,7 +100,7 @@ stays_known (a ∷ b ∷ c ∷ d ∷ e ∷ bytes) rest none known (version, more
     known (version, bytes, at, unknown)
 
 -- bytes of another version are, whatever follows them
-stays_other : (bytes rest : List ℕ) → IsOtherVersion bytes → IsOtherVersion (bytes ++ rest)
+stays_other : (bytes rest : List ℕ) → IsOtherStateVersion bytes → IsOtherStateVersion (bytes ++ rest)
 stays_other bytes rest (version, more, is, unknown) = (version, more ++ rest, ap (λ b. b ++ rest) is, unknown)
 
 more_taken_in :
@@ -118,7 +118,7 @@ more_taken_in bytes piece no_state new is more =
 more_taken_in bytes piece failed new is more = absurd is
 
 stands_for_good :
-    (bytes rest : List ℕ) (intake : Intake) (kind : Kind) → IsIntake bytes intake → StandsAt intake kind
+    (bytes rest : List ℕ) (intake : Intake) (kind : Kind) → IsIntake bytes intake → HasFaultAt intake kind
     → length (bytes ++ rest) < 2 ^ 64 → IsStateFault (bytes ++ rest) (refusal_at kind 0)
 stands_for_good bytes rest (so_far taken) kind is stands held = absurd stands
 stands_for_good bytes rest other_version kind is stands held = (refl, inl (stands, stays_other bytes rest is))

@@ -4,13 +4,13 @@ use Rattle.std.specs.Prelude.{replicate}
 use Rattle.std.proofs.lemmas.List.{take_all, drop_all}
 use Rattle.cue_table.specs.Tree.{empty}
 use Rattle.cue_lattice.specs.World as world
-use Rattle.cue_lattice.specs.World.{Meaning, Piece, Sets, AllAlong, IsOutcome, AreOutcomes, IsUnified, reach, start, pieces_at}
+use Rattle.cue_lattice.specs.World.{Meaning, Piece, Sets, AllAlong, IsEventOutcome, AreOutcomes, IsUnified, reach_sets, start_sets, pieces_at}
 use Rattle.cue_replica.specs.declared.world.Event.{Event}
 use Rattle.cue_replica.specs.declared.world.Outcome.{Outcome}
 use Rattle.cue_replica.specs.Language.{Table, language}
-use Rattle.cue_replica.specs.Inner.Events.{Agrees, Happens}
-use Rattle.cue_replica.specs.World.{event_of, outcome_of, reached, AreEqualSites, AreSitesToldAlike}
-use Rattle.cue_replica.specs.Reports.{AreToldAlike}
+use Rattle.cue_replica.specs.Inner.Events.{TablesAgree, EventHappens}
+use Rattle.cue_replica.specs.World.{event_of, outcome_of, reached_sets, AreEqualSites, HaveSitesEqualReports}
+use Rattle.cue_replica.specs.Reports.{HaveEqualReports}
 use Rattle.cue_report.proofs.OneReport.{one_report}
 use Rattle.cue_replica.proofs.Adding.{same_pieces_refuse}
 use Rattle.cue_replica.proofs.Along.{along_at}
@@ -21,20 +21,20 @@ use Rattle.cue_replica.proofs.Sound.{sound}
 reach_more :
     {T : Type 0} (m : Meaning T) (sets : Sets) (events : List world.Event) (outcomes : List world.Outcome) (event : world.Event) (outcome : world.Outcome)
     → AreOutcomes m sets events outcomes
-    → reach sets (events ++ event ∷ []) (outcomes ++ outcome ∷ []) ≡ world.after (reach sets events outcomes) event outcome
+    → reach_sets sets (events ++ event ∷ []) (outcomes ++ outcome ∷ []) ≡ world.sets_after (reach_sets sets events outcomes) event outcome
 reach_more m sets [] [] event outcome are = refl
 reach_more m sets [] (o ∷ os) event outcome are = absurd are
 reach_more m sets (e ∷ es) [] event outcome are = absurd are
-reach_more m sets (e ∷ es) (o ∷ os) event outcome are = reach_more m (world.after sets e o) es os event outcome are.1
+reach_more m sets (e ∷ es) (o ∷ os) event outcome are = reach_more m (world.sets_after sets e o) es os event outcome are.1
 
 outcomes_more :
     {T : Type 0} (m : Meaning T) (sets : Sets) (events : List world.Event) (outcomes : List world.Outcome) (event : world.Event) (outcome : world.Outcome)
-    → AreOutcomes m sets events outcomes → IsOutcome m (reach sets events outcomes) event outcome
+    → AreOutcomes m sets events outcomes → IsEventOutcome m (reach_sets sets events outcomes) event outcome
     → AreOutcomes m sets (events ++ event ∷ []) (outcomes ++ outcome ∷ [])
 outcomes_more m sets [] [] event outcome are is = (is, tt)
 outcomes_more m sets [] (o ∷ os) event outcome are is = absurd are
 outcomes_more m sets (e ∷ es) [] event outcome are is = absurd are
-outcomes_more m sets (e ∷ es) (o ∷ os) event outcome are is = (are.0, outcomes_more m (world.after sets e o) es os event outcome are.1 is)
+outcomes_more m sets (e ∷ es) (o ∷ os) event outcome are is = (are.0, outcomes_more m (world.sets_after sets e o) es os event outcome are.1 is)
 
 map_push : {A B : Type 0} (f : A → B) (xs : List A) (x : A) → map f (xs ++ x ∷ []) ≡ map f xs ++ f x ∷ []
 map_push f [] x = refl
@@ -42,8 +42,8 @@ map_push {B = B} f (y ∷ xs) x = ap (λ (ys : List B). f y ∷ ys) (map_push f 
 
 -- after these events the outcomes are allowed, and sites and messages agree with their sets of pieces
 pub record IsSoFar (sites : ℕ) (events : List Event) (replicas : List Table) (messages : List (Vec ℕ Global)) (outcomes : List Outcome) : Type 0 where
-  pub allowed : AreOutcomes language (start sites) (map event_of events) (map outcome_of outcomes)
-  pub agrees : Agrees replicas messages (reached sites events outcomes)
+  pub allowed : AreOutcomes language (start_sets sites) (map event_of events) (map outcome_of outcomes)
+  pub agrees : TablesAgree replicas messages (reached_sets sites events outcomes)
 
 -- before the first event
 opening_agrees : (sites : ℕ) → AllAlong (IsUnified language) (replicate sites empty) (replicate sites [])
@@ -62,22 +62,22 @@ so_far_none sites replicas messages outcomes r m o =
 pub so_far_more :
     (sites : ℕ) (events : List Event) (event : Event) (replicas replicas' : List Table) (messages messages' : List (Vec ℕ Global)) (outcomes : List Outcome) (outcome : Outcome)
     → IsSoFar sites events replicas messages outcomes
-    → ((sets : Sets) → Agrees replicas messages sets → Happens replicas messages event replicas' messages' outcome sets)
+    → ((sets : Sets) → TablesAgree replicas messages sets → EventHappens replicas messages event replicas' messages' outcome sets)
     → IsSoFar sites (events ++ event ∷ []) replicas' messages' (outcomes ++ outcome ∷ [])
 so_far_more sites events event replicas replicas' messages messages' outcomes outcome so_far happens =
-    let now = happens (reached sites events outcomes) so_far.agrees in
+    let now = happens (reached_sets sites events outcomes) so_far.agrees in
     let es = map_push event_of events event in
     let os = map_push outcome_of outcomes outcome in
-    let P : List world.Event → Type 0 = λ x. AreOutcomes language (start sites) x (map outcome_of (outcomes ++ outcome ∷ [])) in
-    let Q : List world.Outcome → Type 0 = λ x. AreOutcomes language (start sites) (map event_of events ++ event_of event ∷ []) x in
-    let R : Sets → Type 0 = λ s. Agrees replicas' messages' s in
-    let more = reach_more language (start sites) (map event_of events) (map outcome_of outcomes) (event_of event) (outcome_of outcome) so_far.allowed in
-    let same : reached sites (events ++ event ∷ []) (outcomes ++ outcome ∷ []) ≡ world.after (reached sites events outcomes) (event_of event) (outcome_of outcome) =
-    ap (λ (x : List world.Event). reach (start sites) x (map outcome_of (outcomes ++ outcome ∷ []))) es
-    ∙ ap (λ (x : List world.Outcome). reach (start sites) (map event_of events ++ event_of event ∷ []) x) os
+    let P : List world.Event → Type 0 = λ x. AreOutcomes language (start_sets sites) x (map outcome_of (outcomes ++ outcome ∷ [])) in
+    let Q : List world.Outcome → Type 0 = λ x. AreOutcomes language (start_sets sites) (map event_of events ++ event_of event ∷ []) x in
+    let R : Sets → Type 0 = λ s. TablesAgree replicas' messages' s in
+    let more = reach_more language (start_sets sites) (map event_of events) (map outcome_of outcomes) (event_of event) (outcome_of outcome) so_far.allowed in
+    let same : reached_sets sites (events ++ event ∷ []) (outcomes ++ outcome ∷ []) ≡ world.sets_after (reached_sets sites events outcomes) (event_of event) (outcome_of outcome) =
+    ap (λ (x : List world.Event). reach_sets (start_sets sites) x (map outcome_of (outcomes ++ outcome ∷ []))) es
+    ∙ ap (λ (x : List world.Outcome). reach_sets (start_sets sites) (map event_of events ++ event_of event ∷ []) x) os
     ∙ more in
     record {
-      allowed = subst P (sym es) (subst Q (sym os) (outcomes_more language (start sites) (map event_of events) (map outcome_of outcomes) (event_of event) (outcome_of outcome) so_far.allowed now.allowed));
+      allowed = subst P (sym es) (subst Q (sym os) (outcomes_more language (start_sets sites) (map event_of events) (map outcome_of outcomes) (event_of event) (outcome_of outcome) so_far.allowed now.allowed));
       agrees = subst R (sym same) now.agrees;
     }
 
@@ -94,7 +94,7 @@ equal_sites replicas sets along i j a b at_i at_j same =
     (λ h. r.1 (s.0 (l.0 h)), λ h. l.1 (s.1 (r.0 h))))
 
 -- of a table nothing else is told than of itself
-alike : (a : Table) → AreToldAlike a a
+alike : (a : Table) → HaveEqualReports a a
 alike a = record {
   reports = one_report (language.table_refuses a) (language.table_refuses a) (λ path question. (λ h. h, λ h. h));
   text = refl;
@@ -102,9 +102,9 @@ alike a = record {
 }
 
 -- and the same is told of them
-pub sites_told_alike : (replicas : List Table) (sets : List (List Piece)) → AllAlong (IsUnified language) replicas sets → AreSitesToldAlike replicas sets
+pub sites_told_alike : (replicas : List Table) (sets : List (List Piece)) → AllAlong (IsUnified language) replicas sets → HaveSitesEqualReports replicas sets
 sites_told_alike replicas sets along i j a b at_i at_j same =
-    subst (AreToldAlike a) (equal_sites replicas sets along i j a b at_i at_j same) (alike a)
+    subst (HaveEqualReports a) (equal_sites replicas sets along i j a b at_i at_j same) (alike a)
 
 -- a list that was lent whole and comes back with as many elements
 pub lent_whole : {X : Type 0} (old new : List X) (n : ℕ) → length new ≡ length old → n ≡ length old → take n (new ++ drop (length new) old) ≡ new

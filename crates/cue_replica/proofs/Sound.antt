@@ -5,16 +5,16 @@ use Rattle.cue_lattice.specs.declared.refusal.Kind.TheVariants as kinds
 use Rattle.cue_lattice.specs.declared.refusal.Refusal.{Refusal}
 use Rattle.cue_lattice.specs.Question.{SameAnswers}
 use Rattle.cue_lattice.specs.Refusal.{memory, refusal_at}
-use Rattle.cue_lattice.specs.World.{IsSound}
-use Rattle.cue_row.specs.Row.{RowRefuses}
+use Rattle.cue_lattice.specs.World.{IsSoundLanguage}
+use Rattle.cue_row.specs.Row.{RowRefusesQuestion}
 use Rattle.cue_table.specs.Refuses.{TableRefuses}
 use Rattle.cue_table.specs.Valid.{IsValidTable}
 use Rattle.cue_codec.specs.State.{table_bytes, IsTableBytes}
-use Rattle.cue_codec.specs.Decoding.{IsOtherVersion, IsUndecoded}
+use Rattle.cue_codec.specs.Decoding.{IsOtherStateVersion, IsUndecoded}
 use Rattle.cue_codec.proofs.ReadStates as codec
 use Rattle.std.specs.List.{AllByRecursion}
-use Rattle.cue_codec.specs.Entry.{Entry, StateStep, at, to_rest, IsToldStep, entries_of}
-use Rattle.cue_codec.specs.Version.{written}
+use Rattle.cue_codec.specs.Entry.{Entry, StateStep, at, to_rest, CanHoldStep, entries_of}
+use Rattle.cue_codec.specs.Version.{written_version}
 use Rattle.cue_codec.proofs.WrittenStates.{parts_of_state}
 use Rattle.cue_replica.specs.Language.{Table, language}
 use Rattle.cue_replica.specs.States.{IsTableOf, IsState, state_refuses, IsStateFault, IsStateRefusedAtOnce}
@@ -23,12 +23,12 @@ use Rattle.cue_replica.proofs.Asked.{one_table}
 use Rattle.cue_replica.proofs.Texts.{no_text_fault, memory_no_text_fault, text_at_once}
 
 -- the version that is written tells every table
-each_told : (steps : List StateStep) → AllByRecursion (IsToldStep written) steps
+each_told : (steps : List StateStep) → AllByRecursion (CanHoldStep written_version) steps
 each_told [] = tt
 each_told (at step ∷ steps) = (tt, each_told steps)
 each_told (to_rest ∷ steps) = (tt, each_told steps)
 
-told_in_second : (entries : List Entry) → AllByRecursion (λ entry. AllByRecursion (IsToldStep written) entry.path) entries
+told_in_second : (entries : List Entry) → AllByRecursion (λ entry. AllByRecursion (CanHoldStep written_version) entry.path) entries
 told_in_second [] = tt
 told_in_second (entry ∷ entries) = (each_told entry.path, told_in_second entries)
 
@@ -40,16 +40,16 @@ one_spelling bytes a b held h k =
 -- the table that bytes are read as refuses what the bytes do
 pub state_answers :
     (table : Table) (bytes : List ℕ) → length bytes < 2 ^ 64 → IsTableOf bytes table
-    → SameAnswers (TableRefuses RowRefuses table) (state_refuses bytes)
+    → SameAnswers (TableRefuses RowRefusesQuestion table) (state_refuses bytes)
 state_answers table bytes held is path question = (
   λ h. (table, is, h),
   λ h.
       let one = one_spelling bytes h.0 table held h.1 is in
-      subst (λ (t : Table). TableRefuses RowRefuses t path question) one h.2,
+      subst (λ (t : Table). TableRefuses RowRefusesQuestion t path question) one h.2,
 )
 
 -- the bytes of a table are of a version that is known
-pub known_version : (table : Table) (bytes : List ℕ) → IsTableBytes bytes table → IsOtherVersion bytes → ⊥
+pub known_version : (table : Table) (bytes : List ℕ) → IsTableBytes bytes table → IsOtherStateVersion bytes → ⊥
 known_version table bytes is other =
     codec.known_version is.0 bytes _ (sym is.2 ∙ parts_of_state is.0 (entries_of is.0 table)) other
 
@@ -75,7 +75,7 @@ decoder_refuses bytes kind (inl h) = inl (ap (λ k. refusal_at k 0) h.0, λ none
 decoder_refuses bytes kind (inr h) = inr (refl, h)
 
 -- another version is told as such
-pub decoder_version : (bytes : List ℕ) (kind : Kind) → IsUndecoded bytes kind → IsOtherVersion bytes → kind ≡ kinds.Version
+pub decoder_version : (bytes : List ℕ) (kind : Kind) → IsUndecoded bytes kind → IsOtherStateVersion bytes → kind ≡ kinds.Version
 decoder_version bytes kind (inl h) other = absurd (codec.begun_known bytes h.1 other)
 decoder_version bytes kind (inr (inl h)) other = h.0
 decoder_version bytes kind (inr (inr h)) other = absurd (h.1 other)
@@ -86,11 +86,11 @@ state_not_at_once bytes is first = let fault = state_at_once bytes first in no_s
 
 -- a valid table is that of its own bytes
 pub own_table : (table : Table) → IsValidTable table → IsTableOf (table_bytes table) table
-own_table table valid = record { valid = valid; spelled = (written, told_in_second (entries_of written table), refl) }
+own_table table valid = record { valid = valid; spelled = (written_version, told_in_second (entries_of written_version table), refl) }
 
 reads_own :
     (table : Table) → IsValidTable table → length (table_bytes table) < 2 ^ 64
-    → IsState (table_bytes table) × SameAnswers (state_refuses (table_bytes table)) (TableRefuses RowRefuses table)
+    → IsState (table_bytes table) × SameAnswers (state_refuses (table_bytes table)) (TableRefuses RowRefusesQuestion table)
 reads_own table valid held =
     let is = own_table table valid in
     let same = state_answers table (table_bytes table) held is in (
@@ -99,7 +99,7 @@ reads_own table valid held =
     )
 
 -- the language keeps to what is asked of a meaning
-pub sound : IsSound Table language
+pub sound : IsSoundLanguage Table language
 sound = record {
   no_text_fault = no_text_fault;
   no_state_fault = no_state_fault;

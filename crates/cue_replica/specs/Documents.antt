@@ -6,16 +6,16 @@ use Rattle.cue_lattice.specs.Meets.{Meets}
 use Rattle.cue_lattice.specs.World.{Piece, IsAdmitted}
 use Rattle.serde_json.specs.Data.{Data}
 use Rattle.serde_json.specs.Written.{compact_text}
-use Rattle.cue_report.specs.Documents.{json_of, Tells}
+use Rattle.cue_report.specs.Documents.{json_of, IsDocumentOf}
 use Rattle.cue_report.specs.Export.{IsShape}
-use Rattle.cue_report.specs.Gaps.{IsChosen}
+use Rattle.cue_report.specs.Gaps.{IsChosenScalar}
 use Rattle.cue_report.specs.Picks.{IsPicked}
 use Rattle.cue_report.specs.declared.outcome.Export.TheVariants.{Json}
 use Rattle.cue_replica.specs.Language.{Table, language}
-use Rattle.cue_replica.specs.Reports.{IsExportOf, AreConflictsOf, AreGapsOf}
+use Rattle.cue_replica.specs.Reports.{IsExportOfTable, AreConflictsOf, AreGapsOf}
 
 -- The JSON tells a document that each piece admits.
-pub record TellsAdmitted (pieces : List Piece) (told : Data) : Type 0 where
+pub record IsAdmittedDocument (pieces : List Piece) (told : Data) : Type 0 where
   pub document : Document
   pub admitted : IsAdmitted language pieces document
   pub json : told ≡ json_of document
@@ -23,7 +23,7 @@ pub record TellsAdmitted (pieces : List Piece) (told : Data) : Type 0 where
 -- Each of its scalars is the chosen one: it has the shape of an export, and as nothing is
 -- incomplete there is no place where anything may stand, and null in its stead.
 pub record IsOfChosen (table : Table) (told : Data) : Type 0 where
-  pub shape : IsShape IsChosen (language.table_refuses table) told
+  pub shape : IsShape IsChosenScalar (language.table_refuses table) told
   pub full : AreGapsOf table []
 
 -- A site's reports are exact: its table is met by just the documents that each piece admits; there
@@ -33,8 +33,8 @@ pub record IsExactSite (table : Table) (pieces : List Piece) : Type 0 where
   pub documents : (d : Document) → IsDocument d
       → IsAdmitted language pieces d ↔ Meets (language.table_refuses table) d
   pub conflicts : AreConflictsOf table [] ↔ ((d : Document) × IsAdmitted language pieces d)
-  pub tells : (told : Data) → Tells IsPicked (language.table_refuses table) told
-      → TellsAdmitted pieces told
-  pub exports : (text : String Global) → IsExportOf table (Json text)
-      → (told : Data) × TellsAdmitted pieces told × IsOfChosen table told
+  pub tells : (told : Data) → IsDocumentOf IsPicked (language.table_refuses table) told
+      → IsAdmittedDocument pieces told
+  pub exports : (text : String Global) → IsExportOfTable table (Json text)
+      → (told : Data) × IsAdmittedDocument pieces told × IsOfChosen table told
       × (string_bytes text ≡ compact_text told)

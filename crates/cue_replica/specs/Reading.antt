@@ -13,11 +13,11 @@ abbrev pub HasTakenIn : Intake → List ℕ → Type 0
 HasTakenIn intake bytes = IsIntake bytes intake × (length bytes < 2 ^ 64)
 
 -- the fault at which a reader stands, whatever it is handed further
-abbrev pub StandsAt : Intake → Kind → Type 0
-StandsAt (so_far bytes) kind = ⊥
-StandsAt other_version kind = kind ≡ kinds.Version
-StandsAt no_state kind = kind ≡ kinds.NotState
-StandsAt failed kind = kind ≡ kinds.Failed
+abbrev pub HasFaultAt : Intake → Kind → Type 0
+HasFaultAt (so_far bytes) kind = ⊥
+HasFaultAt other_version kind = kind ≡ kinds.Version
+HasFaultAt no_state kind = kind ≡ kinds.NotState
+HasFaultAt failed kind = kind ≡ kinds.Failed
 
 -- What a reader has taken in tells of all bytes that it was handed, however they were cut.
 pub record AreReadInPieces : Type 0 where
@@ -29,7 +29,7 @@ pub record AreReadInPieces : Type 0 where
   -- where it stands at a fault, that is the fault of its bytes, whatever follows them, as many
   -- bytes as a memory can hold
   pub stands : (bytes rest : List ℕ) (intake : Intake) (kind : Kind) → IsIntake bytes intake
-      → StandsAt intake kind → length (bytes ++ rest) < 2 ^ 64
+      → HasFaultAt intake kind → length (bytes ++ rest) < 2 ^ 64
       → language.IsStateFault (bytes ++ rest) (refusal_at kind 0)
   -- no bytes have two faults
   pub one_fault : (bytes : List ℕ) (why other : Refusal) → language.IsStateFault bytes why

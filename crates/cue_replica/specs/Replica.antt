@@ -5,8 +5,8 @@ use Rattle.cue_lattice.specs.Question.{Question, Refusals}
 use Rattle.cue_replica.specs.Language.{Table, language}
 
 -- the new table refuses exactly what the old one did and what was added
-abbrev pub Adds : Table → Refusals → Table → Type 0
-Adds old added new =
+abbrev pub AddsRefusals : Table → Refusals → Table → Type 0
+AddsRefusals old added new =
     (path : Path) (question : Question)
     → language.table_refuses new path question
     ↔ (language.table_refuses old path question ⊎ added path question)

@@ -3,14 +3,14 @@ use Rattle.std.specs.Prelude.{◌≡◌, ◌⊎◌, ℕ, List, map, Some, slice_
 use Rattle.std.specs.Global.{Global}
 use Rattle.cue_lattice.specs.Refusal.{memory}
 use Rattle.cue_lattice.specs.World as world
-use Rattle.cue_lattice.specs.World.{Piece, Sets, IsMessageOf, SamePieces, reach, start, pieces_at}
+use Rattle.cue_lattice.specs.World.{Piece, Sets, IsMessageOf, SamePieces, reach_sets, start_sets, pieces_at}
 use Rattle.cue_replica.specs.declared.world.Event.{Event}
 use Rattle.cue_replica.specs.declared.world.Event.TheVariants.{Submit, Send, Deliver, Foreign}
 use Rattle.cue_replica.specs.declared.world.Outcome.{Outcome}
 use Rattle.cue_replica.specs.declared.world.Outcome.TheVariants.{Accepted, Sent, Refused, NoSuch}
 use Rattle.cue_replica.specs.Language.{Table, language}
-use Rattle.cue_replica.specs.Replica.{Adds}
-use Rattle.cue_replica.specs.Reports.{AreToldAlike}
+use Rattle.cue_replica.specs.Replica.{AddsRefusals}
+use Rattle.cue_replica.specs.Reports.{HaveEqualReports}
 
 -- an event of the program, as the definition has it
 abbrev pub event_of : Event → world.Event
@@ -27,8 +27,8 @@ outcome_of (Refused why) = world.refused why
 outcome_of NoSuch = world.no_such
 
 -- the sets of pieces that a run has reached
-abbrev pub reached : ℕ → List Event → List Outcome → Sets
-reached sites events outcomes = reach (start sites) (map event_of events) (map outcome_of outcomes)
+abbrev pub reached_sets : ℕ → List Event → List Outcome → Sets
+reached_sets sites events outcomes = reach_sets (start_sets sites) (map event_of events) (map outcome_of outcomes)
 
 -- a message has the bytes that a site writes for the table that is the unification of exactly these
 -- pieces
@@ -46,24 +46,24 @@ abbrev pub AreEqualSites : List Table → List (List Piece) → Type 0
 AreEqualSites = HoldsOfAlike (λ a b. a ≡ b)
 
 -- and the same is told of them
-abbrev pub AreSitesToldAlike : List Table → List (List Piece) → Type 0
-AreSitesToldAlike = HoldsOfAlike AreToldAlike
+abbrev pub HaveSitesEqualReports : List Table → List (List Piece) → Type 0
+HaveSitesEqualReports = HoldsOfAlike HaveEqualReports
 
 -- a text is handed in
-abbrev pub Submits : List ℕ → Table → Table → Outcome → Type 0
-Submits text before after Accepted =
-    language.IsLegal text × Adds before (language.text_refuses text) after × language.IsValid after
-Submits text before after (Refused why) =
+abbrev pub SubmitsText : List ℕ → Table → Table → Outcome → Type 0
+SubmitsText text before after Accepted =
+    language.IsLegal text × AddsRefusals before (language.text_refuses text) after × language.IsValid after
+SubmitsText text before after (Refused why) =
     (after ≡ before)
     × (((why ≡ memory) × ¬ language.IsTextRefusedAtOnce text) ⊎ language.IsTextFault text why)
-Submits text before after outcome = ⊥
+SubmitsText text before after outcome = ⊥
 
 -- state bytes are handed in
-abbrev pub Takes : List ℕ → Table → Table → Outcome → Type 0
-Takes bytes before after Accepted =
-    language.IsState bytes × Adds before (language.state_refuses bytes) after
+abbrev pub TakesState : List ℕ → Table → Table → Outcome → Type 0
+TakesState bytes before after Accepted =
+    language.IsState bytes × AddsRefusals before (language.state_refuses bytes) after
     × language.IsValid after
-Takes bytes before after (Refused why) =
+TakesState bytes before after (Refused why) =
     (after ≡ before)
     × (((why ≡ memory) × ¬ language.IsStateRefusedAtOnce bytes) ⊎ language.IsStateFault bytes why)
-Takes bytes before after outcome = ⊥
+TakesState bytes before after outcome = ⊥

@@ -1,13 +1,13 @@
 ghost use Rattle.std.specs.Prelude.{◌≡◌, ◌<◌, map, replicate, IfOk, vec_len, vec_capacity};
-ghost use Rattle.cue_lattice.specs.World.{Sets, AreOutcomes, AllAlong, IsUnified, start};
+ghost use Rattle.cue_lattice.specs.World.{Sets, AreOutcomes, AllAlong, IsUnified, start_sets};
 ghost use Rattle.cue_table.specs.Tree.{empty};
 ghost use Rattle.cue_replica.specs.Documents.{IsExactSite};
 ghost use Rattle.cue_replica.specs.Language.{language};
-ghost use Rattle.cue_replica.specs.Inner.Events.{HappensAt, Sends, Delivers, KeepsRoom};
-ghost use Rattle.cue_replica.specs.World.{Submits, Takes};
-ghost use Rattle.cue_replica.specs.Inner.Events.{Agrees, Happens};
-ghost use Rattle.cue_replica.specs.World.{event_of, outcome_of, reached, IsSentOf};
-ghost use Rattle.cue_replica.specs.World.{AreEqualSites, AreSitesToldAlike};
+ghost use Rattle.cue_replica.specs.Inner.Events.{HappensAtSite, SendsState, DeliversState, KeepsRoom};
+ghost use Rattle.cue_replica.specs.World.{SubmitsText, TakesState};
+ghost use Rattle.cue_replica.specs.Inner.Events.{TablesAgree, EventHappens};
+ghost use Rattle.cue_replica.specs.World.{event_of, outcome_of, reached_sets, IsSentOf};
+ghost use Rattle.cue_replica.specs.World.{AreEqualSites, HaveSitesEqualReports};
 
 use crate::{Event, Outcome, Replica, World};
 use cue_lattice::{Memory, Refusal};
@@ -15,7 +15,7 @@ use std::alloc::Global;
 
 /// Hands a text to a site.
 fn submit_at(replicas: &mut [Replica], site: usize, text: &str) -> Outcome
-    ensures { HappensAt (Submits text.now) replicas.old site replicas.new result }
+    ensures { HappensAtSite (SubmitsText text.now) replicas.old site replicas.new result }
 {
     if site >= replicas.len() {
         return Outcome::NoSuch;
@@ -28,7 +28,7 @@ fn submit_at(replicas: &mut [Replica], site: usize, text: &str) -> Outcome
 
 /// Hands state bytes to a site.
 fn take_at(replicas: &mut [Replica], site: usize, bytes: &[u8]) -> Outcome
-    ensures { HappensAt (Takes bytes.now) replicas.old site replicas.new result }
+    ensures { HappensAtSite (TakesState bytes.now) replicas.old site replicas.new result }
 {
     if site >= replicas.len() {
         return Outcome::NoSuch;
@@ -47,7 +47,7 @@ fn send_from(
     messages: &mut Vec<Vec<u8>>,
 ) -> Outcome
     requires room { vec_len messages.old < vec_capacity messages.old }
-    ensures sends { Sends replicas.now site messages.old.items messages.new.items result }
+    ensures sends { SendsState replicas.now site messages.old.items messages.new.items result }
     ensures keeps { KeepsRoom messages.old messages.new }
 {
     if site >= replicas.len() {
@@ -69,7 +69,7 @@ fn deliver_to(
     messages: &[Vec<u8>],
     message: usize,
 ) -> Outcome
-    ensures { Delivers messages.now message replicas.old site replicas.new result }
+    ensures { DeliversState messages.now message replicas.old site replicas.new result }
 {
     if message >= messages.len() {
         return Outcome::NoSuch;
@@ -85,8 +85,8 @@ fn happen(
     event: &Event,
 ) -> Outcome
     requires room { vec_len messages.old < vec_capacity messages.old }
-    ensures happens { (sets : Sets) → Agrees replicas.old messages.old.items sets
-        → Happens replicas.old messages.old.items event.now
+    ensures happens { (sets : Sets) → TablesAgree replicas.old messages.old.items sets
+        → EventHappens replicas.old messages.old.items event.now
         replicas.new messages.new.items result sets }
     ensures keeps { KeepsRoom messages.old messages.new }
 {
@@ -99,7 +99,7 @@ fn happen(
 }
 
 /// A world of new sites.
-fn opening(alloc: Global, sites: usize) -> Result<Vec<Replica>, Memory>
+fn new_sites(alloc: Global, sites: usize) -> Result<Vec<Replica>, Memory>
     ensures { IfOk result (λ replicas. replicas.items ≡ replicate sites empty) }
 {
     let mut replicas = Vec::with_capacity(alloc, sites)?;
@@ -118,38 +118,38 @@ fn opening(alloc: Global, sites: usize) -> Result<Vec<Replica>, Memory>
 pub fn run(alloc: Global, sites: usize, events: &[Event]) -> Result<World, Memory>
     // Each event has an outcome that the definition of a world allows at its moment.
     ensures outcomes { IfOk result (λ world.
-        AreOutcomes language (start sites)
+        AreOutcomes language (start_sets sites)
         (map event_of events.now) (map outcome_of world.outcomes.items)) }
 
     // Each site's table refuses a question at a path exactly where a piece does that the site has
     // accepted.
     ensures unified { IfOk result (λ world.
         AllAlong (IsUnified language)
-        world.replicas.items (reached sites events.now world.outcomes.items).sites) }
+        world.replicas.items (reached_sets sites events.now world.outcomes.items).sites) }
 
     // Each message has the state bytes of its sender's table of the moment when it was sent.
     ensures messages { IfOk result (λ world.
         AllAlong IsSentOf
-        world.messages.items (reached sites events.now world.outcomes.items).messages) }
+        world.messages.items (reached_sets sites events.now world.outcomes.items).messages) }
 
     // Sites with the same set of pieces hold equal tables.
     ensures equal { IfOk result (λ world.
         AreEqualSites
-        world.replicas.items (reached sites events.now world.outcomes.items).sites) }
+        world.replicas.items (reached_sets sites events.now world.outcomes.items).sites) }
 
     // And they give the same conflicts, the same gaps, the same export, the same printed text and
     // the same state bytes.
     ensures told { IfOk result (λ world.
-        AreSitesToldAlike
-        world.replicas.items (reached sites events.now world.outcomes.items).sites) }
+        HaveSitesEqualReports
+        world.replicas.items (reached_sets sites events.now world.outcomes.items).sites) }
 
     // Each site has no conflict exactly where some document is admitted by all that it has
     // accepted, and what it exports is such a document, with the chosen scalars.
     ensures exact { IfOk result (λ world.
         AllAlong IsExactSite
-        world.replicas.items (reached sites events.now world.outcomes.items).sites) }
+        world.replicas.items (reached_sets sites events.now world.outcomes.items).sites) }
 {
-    let mut replicas = opening(alloc, sites)?;
+    let mut replicas = new_sites(alloc, sites)?;
     let mut messages = Vec::with_capacity(alloc, events.len())?;
     let mut outcomes = Vec::with_capacity(alloc, events.len())?;
     for event in events {

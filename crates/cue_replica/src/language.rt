@@ -1,5 +1,5 @@
 ghost use Rattle.std.specs.Prelude.{codes};
-ghost use Rattle.cue_lattice.specs.World.{IsExactOnDocuments, IsSound};
+ghost use Rattle.cue_lattice.specs.World.{IsExactOnDocuments, IsSoundLanguage};
 ghost use Rattle.cue_replica.specs.Language.{Table, language};
 ghost use Rattle.cue_replica.specs.PrintedAgain.{GivesTheSiteAgain};
 ghost use Rattle.cue_replica.specs.Reading.{AreReadInPieces};
@@ -11,7 +11,7 @@ ghost use Rattle.cue_replica.specs.Reading.{AreReadInPieces};
 ///
 /// It computes nothing: it states laws.
 pub fn sound_language()
-    ensures sound { IsSound Table language }
+    ensures sound { IsSoundLanguage Table language }
     ensures documents { IsExactOnDocuments Table language }
 {}
 

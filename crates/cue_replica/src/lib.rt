@@ -13,7 +13,7 @@ mod world;
 
 pub use cue_codec::{StateReader, StateWriter};
 pub use cue_lattice::{Form, Kind, Memory, Refusal, TEXT_LIMIT, Text};
-pub use cue_report::{Conflict, Export, ExportKind, Gap, Place, Value, lines, path_text};
+pub use cue_report::{Conflict, Export, ExportKind, Gap, ReportPlace, Value, lines, path_text};
 pub use cue_row::{Path, Step};
 pub use history::run;
 pub use language::{

@@ -2,23 +2,23 @@ ghost use Rattle.std.specs.Prelude.{◌≡◌, ◌<◌, ◌⊎◌, ◌↔◌, �
 ghost use Rattle.std.specs.Prelude.{string_bytes, IsTrue};
 ghost use Rattle.std.specs.Prelude.{IfOk, IfErr, IfSome, IfNone, Ok, IsOk, OnOk, OnErr, IsErrOf};
 ghost use Rattle.std.specs.Io.KnownBytes.{Appends};
-ghost use Rattle.cue_device.specs.Texts.{Begins};
+ghost use Rattle.cue_device.specs.Texts.{WritesPrefix};
 ghost use Rattle.cue_lattice.specs.Limits.{text_limit};
 ghost use Rattle.cue_lattice.specs.Refusal.{memory, refusal_at};
-ghost use Rattle.cue_codec.specs.Decoding.{IsOtherVersion};
+ghost use Rattle.cue_codec.specs.Decoding.{IsOtherStateVersion};
 ghost use Rattle.cue_codec.specs.State.{IsTableBytes};
-ghost use Rattle.cue_lex.specs.Tokens.{too_long};
+ghost use Rattle.cue_lex.specs.Tokens.{text_too_long};
 ghost use Rattle.serde_json.specs.View.{view};
 ghost use Rattle.serde_json.specs.Written.{has_float};
-ghost use Rattle.cue_report.specs.Documents.{SomeMeets, Tells, IsExactExport};
+ghost use Rattle.cue_report.specs.Documents.{SomeMeets, IsDocumentOf, IsExactExport};
 ghost use Rattle.cue_report.specs.Picks.{IsPicked};
 ghost use Rattle.cue_codec.specs.Size.{size_of};
-ghost use Rattle.cue_replica.specs.Language.{language, opening};
-ghost use Rattle.cue_replica.specs.PrintedAgain.{IsReadAgain};
-ghost use Rattle.cue_replica.specs.Reading.{HasTakenIn, StandsAt};
-ghost use Rattle.cue_replica.specs.Reports.{IsExportOf, AreConflictsOf, AreGapsOf, printed};
-ghost use Rattle.cue_replica.specs.Reports.{TellsExportOf, TellsConflictsOf, TellsGapsOf};
-ghost use Rattle.cue_replica.specs.Reports.{BeginsExportOf, BeginsConflictsOf, BeginsGapsOf};
+ghost use Rattle.cue_replica.specs.Language.{language, empty_site};
+ghost use Rattle.cue_replica.specs.PrintedAgain.{IsStateReadAgain};
+ghost use Rattle.cue_replica.specs.Reading.{HasTakenIn, HasFaultAt};
+ghost use Rattle.cue_replica.specs.Reports.{IsExportOfTable, AreConflictsOf, AreGapsOf, printed_text};
+ghost use Rattle.cue_replica.specs.Reports.{WritesExportOf, WritesConflictsOf, WritesGapsOf};
+ghost use Rattle.cue_replica.specs.Reports.{WritesExportPrefixOf, WritesConflictsPrefixOf, WritesGapsPrefixOf};
 
 use crate::fragment::read;
 use cue_codec::{StateReader, StateWriter, decode, encode, size};
@@ -58,12 +58,12 @@ impl Model for Replica {
 
 impl Replica {
     ghost use Rattle.cue_table.specs.Valid.{IsValidTable};
-    ghost use Rattle.cue_replica.specs.Inner.Reads.{Reads};
-    ghost use Rattle.cue_replica.specs.Replica.{Adds};
+    ghost use Rattle.cue_replica.specs.Inner.Reads.{ReadsTable};
+    ghost use Rattle.cue_replica.specs.Replica.{AddsRefusals};
 
     /// A site that has accepted nothing.
     pub fn new(alloc: Global) -> Replica
-        ensures { result ≡ opening }
+        ensures { result ≡ empty_site }
     {
         Replica {
             table: Table::new(alloc),
@@ -82,13 +82,13 @@ impl Replica {
     /// and `TooDeep`. Each comes with its place in the text. And `Memory`.
     pub fn submit(&mut self, text: &str) -> Result<(), Refusal>
         ensures legal { OnOk result (language.IsLegal text.now) }
-        ensures ok { OnOk result (Adds self.old (language.text_refuses text.now) self.new) }
+        ensures ok { OnOk result (AddsRefusals self.old (language.text_refuses text.now) self.new) }
         // Want of memory hides no fault that is found with none.
         ensures refused { IfErr result (λ why.
             ((why ≡ memory) × ¬ language.IsTextRefusedAtOnce text.now)
             ⊎ language.IsTextFault text.now why) }
         // A text that is too long is always refused as such: for it no memory is wanted.
-        ensures long { text_limit < length text.now → IsErrOf result too_long }
+        ensures long { text_limit < length text.now → IsErrOf result text_too_long }
         ensures err { OnErr result (self.new ≡ self.old) }
         ensures valid { language.IsValid self.new }
     {
@@ -105,15 +105,15 @@ impl Replica {
     /// `Version`, `NotState` and `Memory`, all at place 0.
     pub fn take(&mut self, bytes: &[u8]) -> Result<(), Refusal>
         ensures state { OnOk result (language.IsState bytes.now) }
-        ensures ok { OnOk result (Adds self.old (language.state_refuses bytes.now) self.new) }
+        ensures ok { OnOk result (AddsRefusals self.old (language.state_refuses bytes.now) self.new) }
         // Want of memory hides no fault that is found with none.
         ensures refused { IfErr result (λ why.
             ((why ≡ memory) × ¬ language.IsStateRefusedAtOnce bytes.now)
             ⊎ language.IsStateFault bytes.now why) }
         // `Version` exactly where the bytes are of another version: for these no memory is wanted.
-        ensures version { IsOtherVersion bytes.now → IsErrOf result (refusal_at Kind.Version 0) }
+        ensures version { IsOtherStateVersion bytes.now → IsErrOf result (refusal_at Kind.Version 0) }
         // The state of a site that has accepted nothing wants none either.
-        ensures opening { IsTableBytes bytes.now opening → IsOk result }
+        ensures opening { IsTableBytes bytes.now empty_site → IsOk result }
         ensures err { OnErr result (self.new ≡ self.old) }
         ensures valid { language.IsValid self.new }
     {
@@ -134,14 +134,14 @@ impl Replica {
         ensures state { (bytes : List ℕ) → HasTakenIn reader bytes
             → OnOk result (language.IsState bytes) }
         ensures ok { (bytes : List ℕ) → HasTakenIn reader bytes
-            → OnOk result (Adds self.old (language.state_refuses bytes) self.new) }
+            → OnOk result (AddsRefusals self.old (language.state_refuses bytes) self.new) }
         ensures refused { (bytes : List ℕ) → HasTakenIn reader bytes → IfErr result (λ why.
             ((why ≡ memory) × ¬ language.IsStateRefusedAtOnce bytes)
             ⊎ language.IsStateFault bytes why) }
-        ensures version { (bytes : List ℕ) → HasTakenIn reader bytes → IsOtherVersion bytes
+        ensures version { (bytes : List ℕ) → HasTakenIn reader bytes → IsOtherStateVersion bytes
             → IsErrOf result (refusal_at Kind.Version 0) }
         // A fault at which the reader stands is always told, and for it no memory is wanted.
-        ensures fault { (kind : Kind) → StandsAt reader kind
+        ensures fault { (kind : Kind) → HasFaultAt reader kind
             → IsErrOf result (refusal_at kind 0) }
         ensures err { OnErr result (self.new ≡ self.old) }
         ensures valid { language.IsValid self.new }
@@ -155,9 +155,9 @@ impl Replica {
     ///
     /// `Memory`, and then this site is as before.
     pub fn unify(&mut self, other: Replica) -> Result<(), Memory>
-        ensures ok { OnOk result (Adds self.old (language.table_refuses other) self.new) }
+        ensures ok { OnOk result (AddsRefusals self.old (language.table_refuses other) self.new) }
         // Where one of both has accepted nothing, no memory is wanted.
-        ensures opening { (self.old ≡ opening) ⊎ (other ≡ opening) → IsOk result }
+        ensures opening { (self.old ≡ empty_site) ⊎ (other ≡ empty_site) → IsOk result }
         ensures err { OnErr result (self.new ≡ self.old) }
         ensures valid { language.IsValid self.new }
     {
@@ -188,17 +188,17 @@ impl Replica {
     /// to.
     fn take_table(&mut self, read: Result<Table<Row>, Kind>) -> Result<(), Refusal>
         requires { IfOk read IsValidTable }
-        ensures state { (bytes : List ℕ) → Reads bytes read
+        ensures state { (bytes : List ℕ) → ReadsTable bytes read
             → OnOk result (language.IsState bytes) }
-        ensures ok { (bytes : List ℕ) → Reads bytes read → length bytes < 2 ^ 64
-            → OnOk result (Adds self.old (language.state_refuses bytes) self.new) }
-        ensures refused { (bytes : List ℕ) → Reads bytes read → IfErr result (λ why.
+        ensures ok { (bytes : List ℕ) → ReadsTable bytes read → length bytes < 2 ^ 64
+            → OnOk result (AddsRefusals self.old (language.state_refuses bytes) self.new) }
+        ensures refused { (bytes : List ℕ) → ReadsTable bytes read → IfErr result (λ why.
             ((why ≡ memory) × ¬ language.IsStateRefusedAtOnce bytes)
             ⊎ language.IsStateFault bytes why) }
-        ensures version { (bytes : List ℕ) → Reads bytes read → IsOtherVersion bytes
+        ensures version { (bytes : List ℕ) → ReadsTable bytes read → IsOtherStateVersion bytes
             → IsErrOf result (refusal_at Kind.Version 0) }
         ensures none { IfErr read (λ kind. IsErrOf result (refusal_at kind 0)) }
-        ensures opening { read ≡ Ok opening → IsOk result }
+        ensures opening { read ≡ Ok empty_site → IsOk result }
         ensures err { OnErr result (self.new ≡ self.old) }
         ensures valid { language.IsValid self.new }
     {
@@ -243,7 +243,7 @@ impl Replica {
     /// With conflicts no document meets the table; and what is told in JSON is one that does, with
     /// the chosen scalars.
     pub fn export(&self, alloc: Global) -> Result<Export, Memory>
-        ensures export { IfOk result (IsExportOf self.now) }
+        ensures export { IfOk result (IsExportOfTable self.now) }
         ensures exact { IfOk result (IsExactExport (language.table_refuses self.now)) }
     {
         cue_report::export(alloc, &self.table)
@@ -256,17 +256,17 @@ impl Replica {
     /// # Errors
     ///
     /// Where no more is taken; then the front of the text was.
-    pub fn tell_export<S: TextSink>(
+    pub fn write_export<S: TextSink>(
         &self,
         alloc: Global,
         out: &mut S,
-    ) -> Result<ExportKind, S::Halt>
-        ensures export { IfOk result (λ kind. TellsExportOf self.now kind
+    ) -> Result<ExportKind, S::SinkError>
+        ensures export { IfOk result (λ kind. WritesExportOf self.now kind
             (S.taken out.old) (S.taken out.new)) }
         ensures begun { OnErr result
-            (BeginsExportOf self.now (S.taken out.old) (S.taken out.new)) }
+            (WritesExportPrefixOf self.now (S.taken out.old) (S.taken out.new)) }
     {
-        cue_report::tell_export(alloc, &self.table, out)
+        cue_report::write_export(alloc, &self.table, out)
     }
 
     /// The conflicts, in the order of their paths.
@@ -285,14 +285,18 @@ impl Replica {
     ///
     /// # Errors
     ///
-    /// As `tell_export`.
-    pub fn tell_conflicts<S: TextSink>(&self, alloc: Global, out: &mut S) -> Result<bool, S::Halt>
-        ensures lines { IfOk result (λ some. TellsConflictsOf self.now some
+    /// As `write_export`.
+    pub fn write_conflicts<S: TextSink>(
+        &self,
+        alloc: Global,
+        out: &mut S,
+    ) -> Result<bool, S::SinkError>
+        ensures lines { IfOk result (λ some. WritesConflictsOf self.now some
             (S.taken out.old) (S.taken out.new)) }
         ensures begun { OnErr result
-            (BeginsConflictsOf self.now (S.taken out.old) (S.taken out.new)) }
+            (WritesConflictsPrefixOf self.now (S.taken out.old) (S.taken out.new)) }
     {
-        cue_report::tell_conflicts(alloc, &self.table, out)
+        cue_report::write_conflicts(alloc, &self.table, out)
     }
 
     /// A document that meets the table, also where it is incomplete: where none is chosen, the
@@ -300,7 +304,7 @@ impl Replica {
     /// are conflicts.
     pub fn document(&self, alloc: Global) -> Result<Option<Value>, Memory>
         ensures some { IfOk result (λ found. IfSome found
-            (λ value. Tells IsPicked (language.table_refuses self.now) (view value))) }
+            (λ value. IsDocumentOf IsPicked (language.table_refuses self.now) (view value))) }
         ensures none { IfOk result (λ found. IfNone found
             (¬ SomeMeets (language.table_refuses self.now))) }
         ensures no_float { IfOk result (λ found. IfSome found
@@ -321,26 +325,26 @@ impl Replica {
     ///
     /// # Errors
     ///
-    /// As `tell_export`.
-    pub fn tell_gaps<S: TextSink>(&self, alloc: Global, out: &mut S) -> Result<bool, S::Halt>
-        ensures lines { IfOk result (λ some. TellsGapsOf self.now some
+    /// As `write_export`.
+    pub fn write_gaps<S: TextSink>(&self, alloc: Global, out: &mut S) -> Result<bool, S::SinkError>
+        ensures lines { IfOk result (λ some. WritesGapsOf self.now some
             (S.taken out.old) (S.taken out.new)) }
         ensures begun { OnErr result
-            (BeginsGapsOf self.now (S.taken out.old) (S.taken out.new)) }
+            (WritesGapsPrefixOf self.now (S.taken out.old) (S.taken out.new)) }
     {
-        cue_report::tell_gaps(alloc, &self.table, out)
+        cue_report::write_gaps(alloc, &self.table, out)
     }
 
     /// Tells the canonical text of the table, while it is made.
     ///
     /// # Errors
     ///
-    /// As `tell_export`.
-    pub fn tell_printed<S: TextSink>(&self, alloc: Global, out: &mut S) -> Result<(), S::Halt>
+    /// As `write_export`.
+    pub fn write_printed<S: TextSink>(&self, alloc: Global, out: &mut S) -> Result<(), S::SinkError>
         ensures told { OnOk result
-            (Appends (S.taken out.old) (S.taken out.new) (printed self.now)) }
+            (Appends (S.taken out.old) (S.taken out.new) (printed_text self.now)) }
         ensures begun { OnErr result
-            (Begins (S.taken out.old) (S.taken out.new) (printed self.now)) }
+            (WritesPrefix (S.taken out.old) (S.taken out.new) (printed_text self.now)) }
     {
         cue_print::print_to(alloc, &self.table, out)
     }
@@ -350,8 +354,8 @@ impl Replica {
     /// Where something is known, it is a legal text with just the answers of the table, or it is
     /// over a limit of texts.
     pub fn print(&self, alloc: Global) -> Result<String, Memory>
-        ensures printed { IfOk result (λ text. string_bytes text ≡ printed self.now) }
-        ensures again { IfOk result (λ text. IsReadAgain self.now (string_bytes text)) }
+        ensures printed { IfOk result (λ text. string_bytes text ≡ printed_text self.now) }
+        ensures again { IfOk result (λ text. IsStateReadAgain self.now (string_bytes text)) }
     {
         cue_print::print(alloc, &self.table)
     }

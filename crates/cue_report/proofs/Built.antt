@@ -19,7 +19,7 @@ use Rattle.cue_lattice.specs.Path as paths
 use Rattle.cue_lattice.specs.Path.{label, index, Path, path_cmp}
 use Rattle.cue_lattice.specs.Question.{Refusals, may_be, struct, list, length_at_most, length_at_least}
 use Rattle.cue_lattice.specs.Document as documents
-use Rattle.cue_lattice.specs.Document.{Document, IsReadable, IsDocument, AreItems, AreMembers, IsBefore, length_of, Has}
+use Rattle.cue_lattice.specs.Document.{Document, IsReadable, IsDocument, AreItems, AreMembers, IsPathBefore, length_of, HasMember}
 use Rattle.cue_lattice.specs.Meets.{Meets, ItemsMeet, MembersMeet, at_index}
 use Rattle.cue_lattice.proofs.Meeting.{items_less}
 use Rattle.cue_sets.specs.Texts.{is_listed, is_text_member, text_cmp}
@@ -30,8 +30,8 @@ use Rattle.cue_scalars.specs.declared.scalar_set.ScalarSet.{ScalarSet}
 use Rattle.cue_row.specs.declared.parts.RowParts.{RowParts as Row}
 use Rattle.cue_row.specs.declared.kind.RowKind.{RowKind}
 use Rattle.cue_row.specs.declared.kind.RowKind.TheVariants as kinds
-use Rattle.cue_row.specs.Kinds.{IsKind}
-use Rattle.cue_row.specs.Row.{Refuses, IsRow}
+use Rattle.cue_row.specs.Kinds.{IsRowKind}
+use Rattle.cue_row.specs.Row.{RefusesAsked, IsRow}
 use Rattle.cue_row.specs.ValidRow.{AreWords, IsValidRow, UsualFits}
 use Rattle.cue_table.specs.Form.{IsTable}
 use Rattle.cue_table.specs.Tree.{Tree, step_into, row_at}
@@ -40,10 +40,10 @@ use Rattle.serde_json.specs.Data as json
 use Rattle.serde_json.specs.Data.{Data, null, boolean, number, string, array, object}
 use Rattle.cue_report.specs.Answers.{IsStepDemanded}
 use Rattle.cue_report.specs.Inner.Clear.{IsClear}
-use Rattle.cue_report.specs.Documents.{json_of, items_json, members_json, Tells}
-use Rattle.cue_report.specs.Export.{beyond, data_of, keys, count, AreKeys, IsAtom, IsShape, AreElements}
+use Rattle.cue_report.specs.Documents.{json_of, items_json, members_json, IsDocumentOf}
+use Rattle.cue_report.specs.Export.{refused_below, data_of, keys, count_elements, AreKeys, IsAtom, IsShape, AreElements}
 use Rattle.cue_report.specs.Export as shapes
-use Rattle.cue_report.specs.Gaps.{IsChosen}
+use Rattle.cue_report.specs.Gaps.{IsChosenScalar}
 use Rattle.cue_report.specs.Listing.{IsRising, AreConflicts}
 use Rattle.cue_report.specs.Picks.{IsPicked}
 use Rattle.cue_report.proofs.Choice.{IsLeft, member_is}
@@ -74,7 +74,7 @@ not_after (suc n) (suc b ∷ t) h =
 
 -- either only the text is in the set, or none is before it
 abbrev NoneBefore : ScalarSet → Scalar → Type 0
-NoneBefore set scalar = (other : Scalar) → members set other ≡ true → (other ≡ scalar) ⊎ ¬ sets.IsBefore other scalar
+NoneBefore set scalar = (other : Scalar) → members set other ≡ true → (other ≡ scalar) ⊎ ¬ sets.IsScalarBefore other scalar
 
 zeros_or : (n : ℕ) (t : List ℕ) → ((scalars.Text (zeros n) ≡ scalars.Text t) ⊎ ¬ (text_cmp (zeros n) t ≡ Less)) → IsUtf8 t
 zeros_or n t (inl e) = let same : zeros n ≡ t = cc in subst IsUtf8 same (utf8_zeros n)
@@ -102,14 +102,14 @@ record IsFit (refuses : Refusals) (path : Path) (scalar : Scalar) : Type 0 where
 fit_value : (row : Row) (scalar : Scalar) → IsScalarSet row.value → AreWords row.value.texts.1 → IsLeft row.value scalar → NoneBefore row.value scalar → IsFit (λ (path : Path). RefusedAt (Some row)) [] scalar
 fit_value row scalar form w l h = record { is = l.0; readable = readable row.value scalar w ((member_is row.value scalar form).1 l) h; stands = l.1 }
 
-within : (row : Row) (kind : RowKind) → IsKind row kind → UsualFits row kind → row.struct_ok ≡ false → row.list_ok ≡ false → (scalar : Scalar) → members row.usual scalar ≡ true → members row.value scalar ≡ true
+within : (row : Row) (kind : RowKind) → IsRowKind row kind → UsualFits row kind → row.struct_ok ≡ false → row.list_ok ≡ false → (scalar : Scalar) → members row.usual scalar ≡ true → members row.value scalar ≡ true
 within row kinds.Free k u s l scalar m = absurd (false≢true (sym s ∙ k.1))
 within row kinds.Scalar k u s l scalar m = u scalar m
 within row kinds.Struct k u s l scalar m = absurd (false≢true (sym s ∙ k.1))
 within row kinds.List k u s l scalar m = absurd (false≢true (sym l ∙ k.2))
 within row kinds.Nothing k u s l scalar m = absurd (false≢true (sym (u scalar) ∙ m))
 
-chosen_fits : (row : Row) (scalar : Scalar) → IsValidRow row → IsScalarSet row.value → IsScalarSet row.usual → row.struct_ok ≡ false → row.list_ok ≡ false → IsChosen (λ (path : Path). RefusedAt (Some row)) [] scalar → IsFit (λ (path : Path). RefusedAt (Some row)) [] scalar
+chosen_fits : (row : Row) (scalar : Scalar) → IsValidRow row → IsScalarSet row.value → IsScalarSet row.usual → row.struct_ok ≡ false → row.list_ok ≡ false → IsChosenScalar (λ (path : Path). RefusedAt (Some row)) [] scalar → IsFit (λ (path : Path). RefusedAt (Some row)) [] scalar
 chosen_fits row scalar v f g s l (inl only) =
     let member : members row.usual scalar ≡ true = (member_is row.usual scalar g).1 only.0 in
     let left = (member_is row.value scalar f).0 (within row v.kind v.is_kind v.usual s l scalar member) in
@@ -130,7 +130,7 @@ picked_fits row scalar v f g s l (inr (none, first)) =
 not_some : (row : Row) → None ≡ Some row → ⊥
 not_some row e = cc
 
-form_at : (path : Path) (tree : Tree Row) (row : Row) → IsTable Refuses IsRow tree → row_at tree path ≡ Some row → IsRow row
+form_at : (path : Path) (tree : Tree Row) (row : Row) → IsTable RefusesAsked IsRow tree → row_at tree path ≡ Some row → IsRow row
 form_at [] tree row h e = row_is tree row e h
 form_at (step ∷ path) tree row h e =
     ⊎_elim
@@ -161,7 +161,7 @@ record IsKnown (refuses : Refusals) : Type 0 where
   words : IsWorded refuses
   fits : AreFit refuses
 
-known_below : (refuses : Refusals) (step : paths.Step) → IsKnown refuses → IsStepDemanded refuses [] step → IsKnown (beyond refuses step)
+known_below : (refuses : Refusals) (step : paths.Step) → IsKnown refuses → IsStepDemanded refuses [] step → IsKnown (refused_below refuses step)
 known_below refuses step k d = record {
   placed = placed_below refuses step k.placed;
   clear = clear_below refuses step k.clear d;
@@ -180,15 +180,15 @@ record AreItemsBuilt (refuses : Refusals) (first : ℕ) (told : json.Items) : Ty
   items : documents.Items
   are : AreItems items
   meet : ItemsMeet (λ i. at_index refuses (first + i)) items
-  length : length_of items ≡ count told
+  length : length_of items ≡ count_elements told
   json : told ≡ items_json items
 
 record AreMembersBuilt (refuses : Refusals) (told : json.Members) : Type 0 where
   members : documents.Members
   are : AreMembers members
   meet : MembersMeet refuses members
-  has : (l : List ℕ) → OneOf (λ k. k ≡ l) (keys told) → Has l members
-  before : (k : List ℕ) → AllByRecursion (λ later. path_cmp (label k ∷ []) (label later ∷ []) ≡ Less) (keys told) → IsBefore k members
+  has : (l : List ℕ) → OneOf (λ k. k ≡ l) (keys told) → HasMember l members
+  before : (k : List ℕ) → AllByRecursion (λ later. path_cmp (label k ∷ []) (label later ∷ []) ≡ Less) (keys told) → IsPathBefore k members
   json : told ≡ members_json members
 
 then_less : (o : Ordering) → ordering_then o Equal ≡ Less → o ≡ Less
@@ -221,13 +221,13 @@ mutual
   build (string s) refuses k h = atom_built refuses (string s) k h
   build (array told) refuses k h =
       let built = build_items told refuses 0 k (λ i l. (h.2 (0 + i)).1 (let e : 0 + i ≡ i = omega arith in omega (arith, e, l))) h.3 in
-      let e : length_of built.items ≡ count told = built.length in
+      let e : length_of built.items ≡ count_elements told = built.length in
       record {
         document = documents.list built.items;
         is = built.are;
         meets = (
           h.1,
-          (λ g. let low : length_of built.items < count told = (h.2 (length_of built.items)).0 g in let no : ⊥ = omega arith in no),
+          (λ g. let low : length_of built.items < count_elements told = (h.2 (length_of built.items)).0 g in let no : ⊥ = omega arith in no),
           fair_length refuses k h.1 (length_of built.items) (λ n l. (h.2 n).1 (omega (arith, e, l))),
           items_less (λ i. at_index refuses (0 + i)) (at_index refuses)
               (λ i path question g. let z : i ≡ 0 + i = omega arith in subst (λ n. refuses (index n ∷ path) question) z g)
@@ -244,15 +244,15 @@ mutual
         json = ap object built.json;
       }
 
-  build_items : (told : json.Items) (refuses : Refusals) (first : ℕ) → IsKnown refuses → ((i : ℕ) → i < count told → IsStepDemanded refuses [] (index (first + i))) → AreElements IsPicked refuses first told → AreItemsBuilt refuses first told
+  build_items : (told : json.Items) (refuses : Refusals) (first : ℕ) → IsKnown refuses → ((i : ℕ) → i < count_elements told → IsStepDemanded refuses [] (index (first + i))) → AreElements IsPicked refuses first told → AreItemsBuilt refuses first told
   build_items json.no_items refuses first k d h = record { items = documents.no_items; are = tt; meet = tt; length = refl; json = refl }
   build_items (json.item here told) refuses first k d h =
       let z : first + 0 ≡ first = omega arith in
       let demanded : IsStepDemanded refuses [] (index first) = subst (λ n. IsStepDemanded refuses [] (index n)) z (d 0 (omega arith)) in
-      let one = build here (beyond refuses (index first)) (known_below refuses (index first) k demanded) h.0 in
+      let one = build here (refused_below refuses (index first)) (known_below refuses (index first) k demanded) h.0 in
       let more = build_items told refuses (suc first) k
       (λ i l. let e : first + suc i ≡ suc first + i = omega arith in subst (λ n. IsStepDemanded refuses [] (index n)) e (d (suc i) (omega (arith, l)))) h.1 in
-      let e : length_of more.items ≡ count told = more.length in
+      let e : length_of more.items ≡ count_elements told = more.length in
       record {
         items = documents.item one.document more.items;
         are = (one.is, more.are);
@@ -262,7 +262,7 @@ mutual
               (λ i path question g. let s : first + suc i ≡ suc first + i = omega arith in subst (λ n. refuses (index n ∷ path) question) s g)
               more.items more.meet,
         );
-        length = let f : length_of more.items + 1 ≡ suc (count told) = omega (arith, e) in f;
+        length = let f : length_of more.items + 1 ≡ suc (count_elements told) = omega (arith, e) in f;
         json = λ i. json.item (one.json i) (more.json i);
       }
 
@@ -270,7 +270,7 @@ mutual
       → shapes.AreMembers IsPicked refuses told → AreMembersBuilt refuses told
   build_members json.no_members refuses k d r h = record { members = documents.no_members; are = tt; meet = tt; has = λ l o. o; before = λ l b. tt; json = refl }
   build_members (json.member key here told) refuses k d r h =
-      let one = build here (beyond refuses (label key)) (known_below refuses (label key) k d.0) h.0 in
+      let one = build here (refused_below refuses (label key)) (known_below refuses (label key) k d.0) h.0 in
       let more = build_members told refuses k d.1 r.1 h.1 in
       record {
         members = documents.member key one.document more.members;
@@ -282,7 +282,7 @@ mutual
       }
 
 -- What is told of a valid table without conflicts, in the shape of an export, meets it.
-pub tells : (tree : Tree Row) (told : Data) → IsValidTable tree → AreConflicts (Told tree) [] → IsShape IsPicked (Told tree) told → Tells IsPicked (Told tree) told
+pub tells : (tree : Tree Row) (told : Data) → IsValidTable tree → AreConflicts (Told tree) [] → IsShape IsPicked (Told tree) told → IsDocumentOf IsPicked (Told tree) told
 tells tree told valid none shape =
     let built = build told (Told tree) (record { placed = placed tree valid; clear = clear_from (Told tree) none; words = worded tree valid; fits = fits tree valid }) shape in
     record { document = built.document; is = built.is; meets = built.meets; json = built.json; shape = shape }

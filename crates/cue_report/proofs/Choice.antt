@@ -14,7 +14,7 @@ use Rattle.cue_row.specs.Chosen as rows
 use Rattle.cue_row.specs.Kinds.{IsEmptySet}
 use Rattle.cue_row.specs.Row.{IsRow}
 use Rattle.cue_row.specs.declared.parts.RowParts.{RowParts as Row}
-use Rattle.cue_report.specs.Gaps.{IsOnly, IsChosen}
+use Rattle.cue_report.specs.Gaps.{IsOnly, IsChosenScalar}
 use Rattle.cue_report.proofs.Rows.{RefusedAt}
 
 -- a scalar that the set does not refuse
@@ -64,9 +64,9 @@ none_is set f = (
 
 -- the chosen scalar of the row at a place
 abbrev pub IsChosenAt : Option Row → Scalar → Type 0
-IsChosenAt row = IsChosen (λ (path : Path). RefusedAt row) []
+IsChosenAt row = IsChosenScalar (λ (path : Path). RefusedAt row) []
 
-pub chosen_is : (row : Row) (scalar : Scalar) → IsRow row → rows.IsChosen row scalar ↔ IsChosenAt (Some row) scalar
+pub chosen_is : (row : Row) (scalar : Scalar) → IsRow row → rows.IsRowChosen row scalar ↔ IsChosenAt (Some row) scalar
 chosen_is row scalar f = (
   λ h. ⊎_elim (λ o. inl ((only_is row.usual scalar f.usual).0 o)) (λ o. inr ((none_is row.usual f.usual).0 o.0, (only_is row.value scalar f.value).0 o.1)) h,
   λ h. ⊎_elim (λ o. inl ((only_is row.usual scalar f.usual).1 o)) (λ o. inr ((none_is row.usual f.usual).1 o.0, (only_is row.value scalar f.value).1 o.1)) h,

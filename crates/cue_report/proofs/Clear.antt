@@ -6,11 +6,11 @@ use Rattle.cue_lattice.specs.Path as paths
 use Rattle.cue_lattice.specs.Path.{label, index, Path}
 use Rattle.cue_lattice.specs.Question.{Question, Refusals, struct, list, allows, length_at_most, length_at_least}
 use Rattle.cue_lattice.specs.Document as documents
-use Rattle.cue_lattice.specs.Document.{Document, Items, Members, IsDocument, AreItems, AreMembers, length_of, Has}
+use Rattle.cue_lattice.specs.Document.{Document, Items, Members, IsDocument, AreItems, AreMembers, length_of, HasMember}
 use Rattle.cue_lattice.specs.Meets.{Meets, ItemsMeet, MembersMeet, at_label, at_index}
-use Rattle.cue_report.specs.Answers.{further, IsStepDemanded, IsDemanded, HasNoScalar, HasNoValue, IsNotAllowed}
+use Rattle.cue_report.specs.Answers.{path_below, IsStepDemanded, IsDemanded, HasNoScalar, HasNoValue, IsNotAllowed}
 use Rattle.cue_report.specs.Inner.Clear.{IsClear, IsClearAt}
-use Rattle.cue_report.specs.Export.{beyond}
+use Rattle.cue_report.specs.Export.{refused_below}
 use Rattle.cue_report.specs.Listing.{IsConflict, AreConflicts}
 
 -- ---- demanded paths, step by step
@@ -21,18 +21,18 @@ not_nil (x ∷ before) step after e = cc
 first_step : (refused : Refusals) (step : paths.Step) (path : Path) → IsDemanded refused (step ∷ path) → IsStepDemanded refused [] step
 first_step refused step path h = h [] path step refl
 
-deeper : (refused : Refusals) (step : paths.Step) (before : Path) (next : paths.Step) → IsStepDemanded refused (step ∷ before) next → IsStepDemanded (beyond refused step) before next
+deeper : (refused : Refusals) (step : paths.Step) (before : Path) (next : paths.Step) → IsStepDemanded refused (step ∷ before) next → IsStepDemanded (refused_below refused step) before next
 deeper refused step before (label text) h = h
 deeper refused step before (index n) h = h
 
-higher : (refused : Refusals) (step : paths.Step) (before : Path) (next : paths.Step) → IsStepDemanded (beyond refused step) before next → IsStepDemanded refused (step ∷ before) next
+higher : (refused : Refusals) (step : paths.Step) (before : Path) (next : paths.Step) → IsStepDemanded (refused_below refused step) before next → IsStepDemanded refused (step ∷ before) next
 higher refused step before (label text) h = h
 higher refused step before (index n) h = h
 
-later_steps : (refused : Refusals) (step : paths.Step) (path : Path) → IsDemanded refused (step ∷ path) → IsDemanded (beyond refused step) path
+later_steps : (refused : Refusals) (step : paths.Step) (path : Path) → IsDemanded refused (step ∷ path) → IsDemanded (refused_below refused step) path
 later_steps refused step path h before after next e = deeper refused step before next (h (step ∷ before) after next (ap (λ p. step ∷ p) e))
 
-pub all_steps : (refused : Refusals) (step : paths.Step) (path : Path) → IsStepDemanded refused [] step → IsDemanded (beyond refused step) path → IsDemanded refused (step ∷ path)
+pub all_steps : (refused : Refusals) (step : paths.Step) (path : Path) → IsStepDemanded refused [] step → IsDemanded (refused_below refused step) path → IsDemanded refused (step ∷ path)
 all_steps refused step path first h [] after next e =
     let same : step ≡ next = cc in
     subst (IsStepDemanded refused []) same first
@@ -45,17 +45,17 @@ pub root_demanded : (refused : Refusals) → IsDemanded refused []
 root_demanded refused before after step e = absurd (not_nil before step after e)
 
 -- one step more at the end
-one_further : (path : Path) (refused : Refusals) (step : paths.Step) → IsDemanded refused path → IsStepDemanded refused path step → IsDemanded refused (further path step)
-one_further [] refused step h d = all_steps refused step [] d (root_demanded (beyond refused step))
+one_further : (path : Path) (refused : Refusals) (step : paths.Step) → IsDemanded refused path → IsStepDemanded refused path step → IsDemanded refused (path_below path step)
+one_further [] refused step h d = all_steps refused step [] d (root_demanded (refused_below refused step))
 one_further (x ∷ path) refused step h d =
-    all_steps refused x (further path step) (first_step refused x path h)
-    (one_further path (beyond refused x) step (later_steps refused x path h) (deeper refused x path step d))
+    all_steps refused x (path_below path step) (first_step refused x path h)
+    (one_further path (refused_below refused x) step (later_steps refused x path h) (deeper refused x path step d))
 
 -- ---- where nothing conflicts
 pub clear_here : (refused : Refusals) → IsClear refused → IsClearAt refused []
 clear_here refused clear = clear [] (root_demanded refused)
 
-pub clear_below : (refused : Refusals) (step : paths.Step) → IsClear refused → IsStepDemanded refused [] step → IsClear (beyond refused step)
+pub clear_below : (refused : Refusals) (step : paths.Step) → IsClear refused → IsStepDemanded refused [] step → IsClear (refused_below refused step)
 clear_below refused step clear first path h = clear (step ∷ path) (all_steps refused step path first h)
 
 -- what would be refuted whether P holds or not is refuted
@@ -78,7 +78,7 @@ allowed_there refused path h d a =
 pub clear_from : (refused : Refusals) → AreConflicts refused [] → IsClear refused
 clear_from refused h path d = (
   value_there refused path h d,
-  λ l wanted r. allowed_there refused (further path (label l)) h (one_further path refused (label l) d wanted) (path, l, refl, r),
+  λ l wanted r. allowed_there refused (path_below path (label l)) h (one_further path refused (label l) d wanted) (path, l, refl, r),
 )
 
 -- ---- places of one kind
@@ -89,22 +89,22 @@ OfLabels refused path = (l : List ℕ) → IsStepDemanded refused path (label l)
 abbrev pub OfLengths : Refusals → Path → (ℕ → Question) → Type 0
 OfLengths refused path asked = (n : ℕ) → refused path (asked n) → HasNoScalar refused path × refused path struct
 
-abbrev pub Falls : Refusals → Path → Type 0
-Falls refused path = (n m : ℕ) → m ≤ n → refused path (length_at_most n) → refused path (length_at_most m)
+abbrev pub IsDownwardClosed : Refusals → Path → Type 0
+IsDownwardClosed refused path = (n m : ℕ) → m ≤ n → refused path (length_at_most n) → refused path (length_at_most m)
 
 abbrev pub Rises : Refusals → Path → Type 0
 Rises refused path = (n m : ℕ) → n ≤ m → refused path (length_at_least n) → refused path (length_at_least m)
 
 abbrev pub IsPlaced : Refusals → Type 0
 IsPlaced refused =
-    (path : Path) → OfLabels refused path × OfLengths refused path length_at_most × OfLengths refused path length_at_least × Falls refused path × Rises refused path
+    (path : Path) → OfLabels refused path × OfLengths refused path length_at_most × OfLengths refused path length_at_least × IsDownwardClosed refused path × Rises refused path
 
-pub placed_below : (refused : Refusals) (step : paths.Step) → IsPlaced refused → IsPlaced (beyond refused step)
+pub placed_below : (refused : Refusals) (step : paths.Step) → IsPlaced refused → IsPlaced (refused_below refused step)
 placed_below refused step placed path = placed (step ∷ path)
 
 -- ---- where a document meets all that is refused
 -- what stands at a label that a map has, or at an index within a list, meets what is refused there
-at_member : (members : Members) (refused : Refusals) (l : List ℕ) → AreMembers members → MembersMeet refused members → Has l members → (¬ refused [] (allows l)) × ((d : Document) × IsDocument d × Meets (at_label refused l) d)
+at_member : (members : Members) (refused : Refusals) (l : List ℕ) → AreMembers members → MembersMeet refused members → HasMember l members → (¬ refused [] (allows l)) × ((d : Document) × IsDocument d × Meets (at_label refused l) d)
 at_member documents.no_members refused l is m h = absurd h
 at_member (documents.member k d members) refused l is m (inl e) =
     (subst (λ x. refused [] (allows x) → ⊥) e m.0, (d, is.2, subst (λ x. Meets (at_label refused x) d) e m.1))
@@ -125,12 +125,12 @@ has_value (documents.map members) refused is placed m (inl h) = m.0 h.1
 has_value (documents.map members) refused is placed m (inr h) = ⊎_elim (λ g. m.0 ((placed []).1 0 g).1) (λ g. m.0 ((placed []).2 0 g).1) (h.1 0)
 
 -- what a demanded step leads to: the label is allowed, and a document stands there
-step_label : (d : Document) (refused : Refusals) (l : List ℕ) → IsDocument d → IsPlaced refused → Meets refused d → IsStepDemanded refused [] (label l) → (¬ refused [] (allows l)) × ((e : Document) × IsDocument e × Meets (beyond refused (label l)) e)
+step_label : (d : Document) (refused : Refusals) (l : List ℕ) → IsDocument d → IsPlaced refused → Meets refused d → IsStepDemanded refused [] (label l) → (¬ refused [] (allows l)) × ((e : Document) × IsDocument e × Meets (refused_below refused (label l)) e)
 step_label (documents.scalar x) refused l is placed m h = absurd (m (((placed []).0 l h).0 x is.0))
 step_label (documents.list items) refused l is placed m h = absurd (m.0 ((placed []).0 l h).1)
 step_label (documents.map members) refused l is placed m h = at_member members refused l is m.2 (m.1 l h)
 
-step_index : (d : Document) (refused : Refusals) (n : ℕ) → IsDocument d → IsPlaced refused → Meets refused d → IsStepDemanded refused [] (index n) → (e : Document) × IsDocument e × Meets (beyond refused (index n)) e
+step_index : (d : Document) (refused : Refusals) (n : ℕ) → IsDocument d → IsPlaced refused → Meets refused d → IsStepDemanded refused [] (index n) → (e : Document) × IsDocument e × Meets (refused_below refused (index n)) e
 step_index (documents.scalar x) refused n is placed m h = absurd (m (((placed []).1 n h).0 x is.0))
 step_index (documents.map members) refused n is placed m h = absurd (m.0 ((placed []).1 n h).1)
 step_index (documents.list items) refused n is placed m h = elim (cases_lt n (length_of items)) [
@@ -138,7 +138,7 @@ step_index (documents.list items) refused n is placed m h = elim (cases_lt n (le
   | inr high ↦ absurd (m.1 ((placed []).3 n (length_of items) high h))
 ]
 
-one_step : (step : paths.Step) (d : Document) (refused : Refusals) → IsDocument d → IsPlaced refused → Meets refused d → IsStepDemanded refused [] step → (e : Document) × IsDocument e × Meets (beyond refused step) e
+one_step : (step : paths.Step) (d : Document) (refused : Refusals) → IsDocument d → IsPlaced refused → Meets refused d → IsStepDemanded refused [] step → (e : Document) × IsDocument e × Meets (refused_below refused step) e
 one_step (label l) d refused is placed m h = (step_label d refused l is placed m h).1
 one_step (index n) d refused is placed m h = step_index d refused n is placed m h
 
@@ -146,13 +146,13 @@ meets_value : (path : Path) (d : Document) (refused : Refusals) → IsDocument d
 meets_value [] d refused is placed m h n = has_value d refused is placed m n
 meets_value (step ∷ path) d refused is placed m h n =
     let next = one_step step d refused is placed m (first_step refused step path h) in
-    meets_value path next.0 (beyond refused step) next.1 (placed_below refused step placed) next.2 (later_steps refused step path h) n
+    meets_value path next.0 (refused_below refused step) next.1 (placed_below refused step placed) next.2 (later_steps refused step path h) n
 
-meets_labels : (above : Path) (l : List ℕ) (d : Document) (refused : Refusals) → IsDocument d → IsPlaced refused → Meets refused d → IsDemanded refused (further above (label l)) → refused above (allows l) → ⊥
+meets_labels : (above : Path) (l : List ℕ) (d : Document) (refused : Refusals) → IsDocument d → IsPlaced refused → Meets refused d → IsDemanded refused (path_below above (label l)) → refused above (allows l) → ⊥
 meets_labels [] l d refused is placed m h r = (step_label d refused l is placed m (first_step refused (label l) [] h)).0 r
 meets_labels (step ∷ above) l d refused is placed m h r =
-    let next = one_step step d refused is placed m (first_step refused step (further above (label l)) h) in
-    meets_labels above l next.0 (beyond refused step) next.1 (placed_below refused step placed) next.2 (later_steps refused step (further above (label l)) h) r
+    let next = one_step step d refused is placed m (first_step refused step (path_below above (label l)) h) in
+    meets_labels above l next.0 (refused_below refused step) next.1 (placed_below refused step placed) next.2 (later_steps refused step (path_below above (label l)) h) r
 
 meets_allowed : (path : Path) (d : Document) (refused : Refusals) → IsDocument d → IsPlaced refused → Meets refused d → IsDemanded refused path → IsNotAllowed refused path → ⊥
 meets_allowed path d refused is placed m h (above, l, e, r) = meets_labels above l d refused is placed m (subst (IsDemanded refused) e h) r

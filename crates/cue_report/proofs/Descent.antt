@@ -10,14 +10,14 @@ use Rattle.cue_row.specs.declared.parts.RowParts.{RowParts as Row}
 use Rattle.cue_row.specs.Row as rows
 use Rattle.cue_table.specs.Refuses.{TableRefuses}
 use Rattle.cue_table.specs.Tree.{Tree, empty, row_of, step_into, branch_at, row_at}
-use Rattle.cue_report.specs.Answers.{further, IsStepDemanded, IsDemanded, IsNotAllowed}
+use Rattle.cue_report.specs.Answers.{path_below, IsStepDemanded, IsDemanded, IsNotAllowed}
 use Rattle.cue_report.specs.Inner.GapSearch.{IsBarred}
 use Rattle.cue_report.specs.Inner.Search.{is_demanded, is_refused}
 use Rattle.cue_report.proofs.Rows.{RefusedAt, level_is, longer_is, refused_is, index_allowed}
 
 -- what a tree refuses
 abbrev pub Told : Tree Row → Refusals
-Told = TableRefuses rows.RowRefuses
+Told = TableRefuses rows.RowRefusesQuestion
 
 -- the row below is that of the branch
 pub row_below : (tree inner : Tree Row) (step : paths.Step) (path : Path) → step_into tree step ≡ Some inner → row_at tree (step ∷ path) ≡ row_at inner path
@@ -80,7 +80,7 @@ module _ (tree inner : Tree Row) (step : paths.Step) (same : IsSeen tree inner s
   -- so is what is not allowed, past the branch
   pub barred_down : (next : paths.Step) (path : Path) → IsNotAllowed (Told tree) (step ∷ next ∷ path) → IsNotAllowed (Told inner) (next ∷ path)
   barred_down next path (above, text, e, r) = cases above e r where
-    cases : (above : Path) → step ∷ next ∷ path ≡ further above (label text) → Told tree above (allows text) → IsNotAllowed (Told inner) (next ∷ path)
+    cases : (above : Path) → step ∷ next ∷ path ≡ path_below above (label text) → Told tree above (allows text) → IsNotAllowed (Told inner) (next ∷ path)
     cases [] e r = absurd (not_nil [] next (sym (tails step (label text) (next ∷ path) [] e) ∙ nothing_more e)) where
       nothing_more : step ∷ next ∷ path ≡ label text ∷ [] → next ∷ path ≡ [] ++ next ∷ []
       nothing_more e = cc
@@ -107,7 +107,7 @@ first_refused tree (label text) = (
   same_text : (m : List ℕ) → label text ∷ [] ≡ label m ∷ [] → m ≡ text
   same_text m e = cc
 
-  cases : (above : Path) (m : List ℕ) → label text ∷ [] ≡ further above (label m) → Told tree above (allows m) → Told tree [] (allows text)
+  cases : (above : Path) (m : List ℕ) → label text ∷ [] ≡ path_below above (label m) → Told tree above (allows m) → Told tree [] (allows text)
   cases [] m e r = let P : List ℕ → Type 0 = λ t. Told tree [] (allows t) in subst P (same_text m e) r
   cases (x ∷ above) m e r = absurd (not_nil above (label m) (tails (label text) x [] (above ++ label m ∷ []) e))
 
@@ -120,7 +120,7 @@ first_refused tree (index n) = (
   other : (m : List ℕ) → index n ∷ [] ≡ label m ∷ [] → ⊥
   other m e = cc
 
-  cases : (above : Path) (m : List ℕ) → index n ∷ [] ≡ further above (label m) → ⊥
+  cases : (above : Path) (m : List ℕ) → index n ∷ [] ≡ path_below above (label m) → ⊥
   cases [] m e = other m e
   cases (x ∷ above) m e = not_nil above (label m) (tails (index n) x [] (above ++ label m ∷ []) e)
 

@@ -12,15 +12,15 @@ use Rattle.cue_lattice.specs.Path.{label, index, step_cmp, Path, path_cmp}
 use Rattle.cue_lattice.specs.Question.{Refusals, level_at_most}
 use Rattle.cue_scalars.specs.Scalars.{members}
 use Rattle.cue_row.specs.declared.parts.RowParts.{RowParts as Row}
-use Rattle.cue_row.specs.Row.{Refuses, IsRow}
-use Rattle.cue_table.specs.Form.{IsBelowAll, AreBranches, IsKept, IsTable}
+use Rattle.cue_row.specs.Row.{RefusesAsked, IsRow}
+use Rattle.cue_table.specs.Form.{IsStepBelowAll, AreBranches, IsRowKept, IsTable}
 use Rattle.cue_table.specs.Tree.{Tree, Children, none, child, row_of, below, if_equal, find, step_into, children_of}
 use Rattle.cue_table.specs.Inner.Walks.{first_child}
 use Rattle.cue_table.specs.Size.{tree_size, children_size}
 use Rattle.serde_json.specs.Data.{Data, Members, no_members, member, put}
 use Rattle.serde_json.specs.Written.{has_float, members_have_float}
 use Rattle.cue_report.specs.Answers.{IsStepDemanded}
-use Rattle.cue_report.specs.Export.{beyond, keys, AreKeys, IsShape, AreMembers}
+use Rattle.cue_report.specs.Export.{refused_below, keys, AreKeys, IsShape, AreMembers}
 use Rattle.cue_report.specs.Listing.{IsRising}
 use Rattle.cue_report.specs.Inner.Search.{is_demanded}
 use Rattle.cue_report.specs.Inner.Clear.{IsClear}
@@ -46,7 +46,7 @@ keys_more : (members : Members) (key : List ℕ) (json : Data) → keys (with_me
 keys_more no_members key json = refl
 keys_more (member first here members) key json = ap (λ ks. first ∷ ks) (keys_more members key json)
 
-members_more : (refuses : Refusals) (members : Members) (key : List ℕ) (json : Data) → AreMembers IsPicked refuses members → IsShape IsPicked (beyond refuses (label key)) json → AreMembers IsPicked refuses (with_member members key json)
+members_more : (refuses : Refusals) (members : Members) (key : List ℕ) (json : Data) → AreMembers IsPicked refuses members → IsShape IsPicked (refused_below refuses (label key)) json → AreMembers IsPicked refuses (with_member members key json)
 members_more refuses no_members key json h d = (d, tt)
 members_more refuses (member first here members) key json h d = (h.0, members_more refuses members key json h.1 d)
 
@@ -64,14 +64,14 @@ pub record IsGathered (tree : Tree Row) (rest : Children Row) (members : Members
   pub sound : AllByRecursion (λ key. IsStepDemanded (Told tree) [] (label key)) (keys members)
   pub complete : (key : List ℕ) → IsStepDemanded (Told tree) [] (label key) → OneOf (λ k. k ≡ key) (keys members) ⊎ ((inner : Tree Row) × (find (label key) rest ≡ Some inner))
   pub rising : IsRising key_path (keys members)
-  pub before : AllByRecursion (λ key. IsBelowAll (label key) rest) (keys members)
+  pub before : AllByRecursion (λ key. IsStepBelowAll (label key) rest) (keys members)
   pub among : AreAmong tree rest
-  pub form : AreBranches (IsKept Refuses IsRow) rest
+  pub form : AreBranches (IsRowKept RefusesAsked IsRow) rest
   pub documents : IsClear (Told tree) → AreMembers IsPicked (Told tree) members
   pub no_float : members_have_float members ≡ false
   pub small : children_size rest ≤ children_size (below tree)
 
-pub none_gathered : (tree : Tree Row) (rest : Children Row) (members : Members) → IsTable Refuses IsRow tree → rest ≡ below tree → members ≡ no_members → IsGathered tree rest members
+pub none_gathered : (tree : Tree Row) (rest : Children Row) (members : Members) → IsTable RefusesAsked IsRow tree → rest ≡ below tree → members ≡ no_members → IsGathered tree rest members
 none_gathered tree rest members h r m = subst (λ cs. IsGathered tree cs members) (sym r) (subst (IsGathered tree (below tree)) (sym m) start) where
   start : IsGathered tree (below tree) no_members
   start = record {
@@ -107,7 +107,7 @@ passed tree here step rest rest' members v r n =
           (λ (inner, f). ⊎_elim (λ e. absurd (n key e d)) (λ g. inr (inner, g)) (first_or_later (label key) step here rest' inner f))
           (w.complete key d);
       rising = w.rising;
-      before = all_from (λ key. IsBelowAll (label key) (child step here rest')) (λ key. IsBelowAll (label key) rest') (keys members) (λ key b. b.1) w.before;
+      before = all_from (λ key. IsStepBelowAll (label key) (child step here rest')) (λ key. IsStepBelowAll (label key) rest') (keys members) (λ key b. b.1) w.before;
       among = λ s t f. w.among s t (found_later step s here t rest' w.form.0 f);
       form = w.form.3;
       documents = w.documents;
@@ -122,7 +122,7 @@ taken tree here name rest rest' members after json v r asked a d n =
     let w : IsGathered tree (child (label name) here rest') members = subst (λ cs. IsGathered tree cs members) r v in
     let found : step_into tree (label name) ≡ Some here = w.among (label name) here (found_first (label name) here rest') in
     let lower : AllByRecursion (λ k. step_cmp (label k) (label name) ≡ Less) (keys members) =
-    all_from (λ key. IsBelowAll (label key) (child (label name) here rest')) (λ k. step_cmp (label k) (label name) ≡ Less) (keys members) (λ key b. b.0) w.before in
+    all_from (λ key. IsStepBelowAll (label key) (child (label name) here rest')) (λ k. step_cmp (label k) (label name) ≡ Less) (keys members) (λ key b. b.0) w.before in
     let is : after ≡ with_member members name json = a ∙ put_last members name json lower in
     let ks : keys after ≡ keys members ++ name ∷ [] = ap keys is ∙ keys_more members name json in
     let demanded : IsStepDemanded (Told tree) [] (label name) = (first_demanded tree here (label name) (seen tree here (label name) found)).0 asked in
@@ -137,8 +137,8 @@ taken tree here name rest rest' members after json v r asked a d n =
       rising = subst (IsRising key_path) (sym ks) (rising_append key_path (keys members) (name ∷ []) w.rising (tt, tt)
           (all_from (λ k. step_cmp (label k) (label name) ≡ Less) (λ k. AllByRecursion (λ y. path_cmp (key_path k) (key_path y) ≡ Less) (name ∷ [])) (keys members)
           (λ k b. (ap (λ o. ordering_then o (path_cmp [] [])) b, tt)) lower));
-      before = subst (AllByRecursion (λ key. IsBelowAll (label key) rest')) (sym ks) (all_append _ (keys members) (name ∷ [])
-          (all_from (λ key. IsBelowAll (label key) (child (label name) here rest')) (λ key. IsBelowAll (label key) rest') (keys members) (λ key b. b.1) w.before) (w.form.0, tt));
+      before = subst (AllByRecursion (λ key. IsStepBelowAll (label key) rest')) (sym ks) (all_append _ (keys members) (name ∷ [])
+          (all_from (λ key. IsStepBelowAll (label key) (child (label name) here rest')) (λ key. IsStepBelowAll (label key) rest') (keys members) (λ key b. b.1) w.before) (w.form.0, tt));
       among = λ s t f. w.among s t (found_later (label name) s here t rest' w.form.0 f);
       form = w.form.3;
       documents = λ z. subst (AreMembers IsPicked (Told tree)) (sym is) (members_more (Told tree) members name json (w.documents z) (document_below tree here (label name) json found demanded d z));
@@ -157,7 +157,7 @@ put_behind tree here step name rest rest' members json v c s =
     let r : rest ≡ child (label name) here rest' = first_child rest rest' step here c ∙ ap (λ t. child t here rest') s in
     let w : IsGathered tree (child (label name) here rest') members = subst (λ cs. IsGathered tree cs members) r v in
     put_last members name json
-    (all_from (λ key. IsBelowAll (label key) (child (label name) here rest')) (λ k. step_cmp (label k) (label name) ≡ Less) (keys members) (λ key b. b.0) w.before)
+    (all_from (λ key. IsStepBelowAll (label key) (child (label name) here rest')) (λ k. step_cmp (label k) (label name) ≡ Less) (keys members) (λ key b. b.0) w.before)
 
 -- the step is no label
 pub passed_index :

@@ -6,9 +6,9 @@ use Rattle.cue_table.specs.Tree.{Tree}
 use Rattle.cue_table.specs.Valid.{IsValidTable}
 use Rattle.serde_json.specs.Data.{Data}
 use Rattle.cue_report.specs.Inner.Clear.{IsClear}
-use Rattle.cue_report.specs.Documents.{SomeMeets, Tells}
+use Rattle.cue_report.specs.Documents.{SomeMeets, IsDocumentOf}
 use Rattle.cue_report.specs.Export.{IsShape}
-use Rattle.cue_report.specs.Gaps.{IsChosen, AreGaps}
+use Rattle.cue_report.specs.Gaps.{IsChosenScalar, AreGaps}
 use Rattle.cue_report.specs.Listing.{AreConflicts}
 use Rattle.cue_report.specs.Picks.{IsPicked}
 use Rattle.cue_report.specs.declared.conflict.Conflict.{Conflict}
@@ -35,7 +35,7 @@ pub none_meets : (tree : Tree Row) (found : List Conflict) → AreConflicts (Tol
 none_meets tree found h some valid m = some ((exact_conflicts tree found h valid).1 m)
 
 -- an export tells a document that meets the table
-pub tells_export : (tree : Tree Row) (told : Data) → IsValidTable tree → AreConflicts (Told tree) [] → IsShape IsChosen (Told tree) told → Tells IsChosen (Told tree) told
+pub tells_export : (tree : Tree Row) (told : Data) → IsValidTable tree → AreConflicts (Told tree) [] → IsShape IsChosenScalar (Told tree) told → IsDocumentOf IsChosenScalar (Told tree) told
 tells_export tree told valid none shape =
     let t = tells tree told valid none (picked_shape told (Told tree) shape) in
     record { document = t.document; is = t.is; meets = t.meets; json = t.json; shape = shape }
@@ -51,13 +51,13 @@ at_table : (branch tree : Tree Row) (told : Data) → branch ≡ tree → (IsCle
 at_table branch tree told e h none = subst (λ t. IsClear (Told t) → IsShape IsPicked (Told t) told) e h (clear_from (Told tree) none)
 
 pub tells_document : (branch tree : Tree Row) (found : List Conflict) (told : Data) → branch ≡ tree → AreConflicts (Told tree) found → found ≡ []
-    → (IsClear (Told branch) → IsShape IsPicked (Told branch) told) → IsValidTable tree → Tells IsPicked (Told tree) told
+    → (IsClear (Told branch) → IsShape IsPicked (Told branch) told) → IsValidTable tree → IsDocumentOf IsPicked (Told tree) told
 tells_document branch tree found told e h n shape valid =
     let none = subst (AreConflicts (Told tree)) n h in
     tells tree told valid none (at_table branch tree told e shape none)
 
 pub export_shape : (branch tree : Tree Row) (found : List Conflict) (gaps : List Gap) (told : Data) → branch ≡ tree → AreConflicts (Told tree) found → found ≡ [] → AreGaps (Told tree) gaps → gaps ≡ []
-    → (IsClear (Told branch) → IsShape IsPicked (Told branch) told) → AreConflicts (Told tree) [] × AreGaps (Told tree) [] × IsShape IsChosen (Told tree) told
+    → (IsClear (Told branch) → IsShape IsPicked (Told branch) told) → AreConflicts (Told tree) [] × AreGaps (Told tree) [] × IsShape IsChosenScalar (Told tree) told
 export_shape branch tree found gaps told e h n g m shape =
     let none = subst (AreConflicts (Told tree)) n h in
     let full = subst (AreGaps (Told tree)) m g in

@@ -15,7 +15,7 @@ use Rattle.cue_lattice.specs.Path as paths
 use Rattle.cue_lattice.specs.Path.{label, index, step_cmp, Path}
 use Rattle.cue_lattice.specs.Question.{Question, Refusals, may_be, struct, list, level_at_most, length_at_most, length_at_least}
 use Rattle.cue_lattice.specs.Document as documents
-use Rattle.cue_lattice.specs.Document.{Document, Items, Members, IsReadable, IsDocument, AreItems, AreMembers, IsBefore, length_of, Has}
+use Rattle.cue_lattice.specs.Document.{Document, Items, Members, IsReadable, IsDocument, AreItems, AreMembers, IsPathBefore, length_of, HasMember}
 use Rattle.cue_lattice.specs.Meets.{ItemsMeet, MembersMeet, at_index}
 use Rattle.cue_sets.specs.Pieces.{least, is_member, IsCanonical}
 use Rattle.cue_sets.specs.PieceLaws.{first_is_least}
@@ -26,17 +26,17 @@ use Rattle.cue_scalars.specs.declared.scalar_set.ScalarSet.{ScalarSet}
 use Rattle.cue_row.specs.declared.parts.RowParts.{RowParts as Row}
 use Rattle.cue_row.specs.declared.kind.RowKind.{RowKind}
 use Rattle.cue_row.specs.declared.kind.RowKind.TheVariants as kinds
-use Rattle.cue_row.specs.Kinds.{IsEmptySet, IsKind}
+use Rattle.cue_row.specs.Kinds.{IsEmptySet, IsRowKind}
 use Rattle.cue_row.specs.Lengths.{RefusesLength}
-use Rattle.cue_row.specs.Row.{Refuses, IsRow}
+use Rattle.cue_row.specs.Row.{RefusesAsked, IsRow}
 use Rattle.cue_row.specs.ValidRow.{AreWords, IsWord, IsWordStep, IsValidRow, LengthsFit}
-use Rattle.cue_table.specs.Form.{IsBelowAll, AreBranches, IsKept, IsTable}
+use Rattle.cue_table.specs.Form.{IsStepBelowAll, AreBranches, IsRowKept, IsTable}
 use Rattle.cue_table.specs.Tree.{Tree, node, Children, none, child, Rest, no_rest, onward, row_of, below, if_equal, find, step_into, branch_at, row_at}
 use Rattle.cue_table.specs.Valid.{IsValidTable}
-use Rattle.cue_report.specs.Answers.{further, IsStepDemanded, HasNoScalar}
+use Rattle.cue_report.specs.Answers.{path_below, IsStepDemanded, HasNoScalar}
 use Rattle.cue_report.specs.Inner.Clear.{IsClear}
 use Rattle.cue_report.specs.Documents.{SomeMeets}
-use Rattle.cue_report.specs.Export.{beyond}
+use Rattle.cue_report.specs.Export.{refused_below}
 use Rattle.cue_report.specs.Listing.{AreConflicts}
 use Rattle.cue_report.specs.Inner.Search.{is_empty_set, is_demanded}
 use Rattle.cue_report.proofs.Choice.{member_is}
@@ -61,7 +61,7 @@ no_scalars tree path row e h scalar is = back tree path row (may_be scalar) e (r
 
 of_labels : (tree : Tree Row) → IsValidTable tree → (path : Path) → OfLabels (Told tree) path
 of_labels tree valid path l h =
-    let here = of_row (row_at tree (further path (label l))) (level_at_most 0) h in
+    let here = of_row (row_at tree (path_below path (label l))) (level_at_most 0) h in
     let parent = valid.parents path (label l) here.0 here.1 in
     ⊎_elim
     (λ k. (no_scalars tree path parent.0 parent.1 k.0, back tree path parent.0 list parent.1 k.2))
@@ -69,7 +69,7 @@ of_labels tree valid path l h =
     (valid.kinds path (label l) parent.0 here.0 parent.1 here.1)
 
 -- lengths are left out by lists, and by what lets nothing stand
-least_kind : (row : Row) (kind : RowKind) → IsKind row kind → LengthsFit row kind → (n : ℕ) → n < row.least → IsEmptySet row.value × (row.struct_ok ≡ false)
+least_kind : (row : Row) (kind : RowKind) → IsRowKind row kind → LengthsFit row kind → (n : ℕ) → n < row.least → IsEmptySet row.value × (row.struct_ok ≡ false)
 least_kind row kinds.Free k l n h = absurd (omega (arith, l.0, h))
 least_kind row kinds.Scalar k l n h = absurd (omega (arith, l.0, h))
 least_kind row kinds.Struct k l n h = absurd (omega (arith, l.0, h))
@@ -79,7 +79,7 @@ least_kind row kinds.Nothing k l n h = (k.0, k.1)
 none_most : (row : Row) (n : ℕ) → row.most ≡ None → RefusesLength row.most n → ⊥
 none_most row n e h = let no : RefusesLength None n = subst (λ m. RefusesLength m n) e h in no
 
-most_kind : (row : Row) (kind : RowKind) → IsKind row kind → LengthsFit row kind → (n : ℕ) → RefusesLength row.most n → IsEmptySet row.value × (row.struct_ok ≡ false)
+most_kind : (row : Row) (kind : RowKind) → IsRowKind row kind → LengthsFit row kind → (n : ℕ) → RefusesLength row.most n → IsEmptySet row.value × (row.struct_ok ≡ false)
 most_kind row kinds.Free k l n h = absurd (none_most row n l.1 h)
 most_kind row kinds.Scalar k l n h = absurd (none_most row n l.1 h)
 most_kind row kinds.Struct k l n h = absurd (none_most row n l.1 h)
@@ -125,8 +125,8 @@ last_word (x ∷ path) l h = last_word path l h.1
 
 pub worded : (tree : Tree Row) → IsValidTable tree → IsWorded (Told tree)
 worded tree valid path l h =
-    let here = of_row (row_at tree (further path (label l))) (level_at_most 0) h in
-    (last_word path l (valid.labels (further path (label l)) here.0 here.1)).utf8
+    let here = of_row (row_at tree (path_below path (label l))) (level_at_most 0) h in
+    (last_word path l (valid.labels (path_below path (label l)) here.0 here.1)).utf8
 
 -- ---- a scalar of a set that has one
 record Standing (set : ScalarSet) : Type 0 where
@@ -194,7 +194,7 @@ abbrev Seen : Option (Tree Row) → Refusals
 Seen found path question = RefusedAt (RowsSeen found path) question
 
 record IsWhole (tree : Tree Row) : Type 0 where
-  form : IsTable Refuses IsRow tree
+  form : IsTable RefusesAsked IsRow tree
   clear : IsClear (Told tree)
   words : IsWorded (Told tree)
   rows : (path : Path) → FitsRow (row_at tree path)
@@ -220,7 +220,7 @@ Doc = SomeMeets
 abbrev EachHas : Tree Row → Type 0
 EachHas tree = (step : paths.Step) (inner : Tree Row) → step_into tree step ≡ Some inner → IsWhole inner → Doc (Told inner)
 
-below_has : (tree inner : Tree Row) (step : paths.Step) → EachHas tree → step_into tree step ≡ Some inner → IsWhole tree → IsStepDemanded (Told tree) [] step → Doc (beyond (Told tree) step)
+below_has : (tree inner : Tree Row) (step : paths.Step) → EachHas tree → step_into tree step ≡ Some inner → IsWhole tree → IsStepDemanded (Told tree) [] step → Doc (refused_below (Told tree) step)
 below_has tree inner step each f w d =
     let found = each step inner f (whole_below tree inner step f w d) in
     let P : Option (Tree Row) → Type 0 = λ found. Doc (Seen found) in
@@ -231,13 +231,13 @@ record Built (tree : Tree Row) (rest : Children Row) : Type 0 where
   members : Members
   are : AreMembers members
   meet : MembersMeet (Told tree) members
-  has : (l : List ℕ) (inner : Tree Row) → find (label l) rest ≡ Some inner → is_demanded (row_of tree) (label l) (row_of inner) ≡ true → Has l members
-  before : (k : List ℕ) → IsBelowAll (label k) rest → IsBefore k members
+  has : (l : List ℕ) (inner : Tree Row) → find (label l) rest ≡ Some inner → is_demanded (row_of tree) (label l) (row_of inner) ≡ true → HasMember l members
+  before : (k : List ℕ) → IsStepBelowAll (label k) rest → IsPathBefore k members
 
 same_label : (l m : List ℕ) → label l ≡ label m → m ≡ l
 same_label l m e = cc
 
-members_of : (tree : Tree Row) → IsWhole tree → EachHas tree → (rest : Children Row) → AreBranches (IsKept Refuses IsRow) rest → AreAmong tree rest → Built tree rest
+members_of : (tree : Tree Row) → IsWhole tree → EachHas tree → (rest : Children Row) → AreBranches (IsRowKept RefusesAsked IsRow) rest → AreAmong tree rest → Built tree rest
 members_of tree w each none b among = record {
   members = documents.no_members;
   are = tt;
@@ -278,7 +278,7 @@ of_struct tree w each s =
     let built = members_of tree w each (below tree) (branches tree w.form) (λ step inner f. own tree inner step w.form f) in
     (documents.map built.members, built.are, (s, complete built, built.meet))
   where
-    complete : (built : Built tree (below tree)) (l : List ℕ) → Told tree (label l ∷ []) (level_at_most 0) → Has l built.members
+    complete : (built : Built tree (below tree)) (l : List ℕ) → Told tree (label l ∷ []) (level_at_most 0) → HasMember l built.members
     complete built l h = ⊎_elim
         (λ f. absurd (open_below tree (label l) [] (level_at_most 0) f h))
         (λ f. built.has l f.0 (sym (at_label tree l) ∙ f.1) ((first_demanded tree f.0 (label l) (seen tree f.0 (label l) f.1)).1 h))
@@ -333,7 +333,7 @@ of_list row children rest w each l =
     )
 
 -- ---- each kind
-of_kind : (row : Row) (children : Children Row) (rest : Rest Row) (kind : RowKind) → IsKind row kind → IsValidRow row → IsWhole (node (Some row) children rest) → EachHas (node (Some row) children rest) → Doc (Told (node (Some row) children rest))
+of_kind : (row : Row) (children : Children Row) (rest : Rest Row) (kind : RowKind) → IsRowKind row kind → IsValidRow row → IsWhole (node (Some row) children rest) → EachHas (node (Some row) children rest) → Doc (Told (node (Some row) children rest))
 of_kind row children rest kinds.Free k v w each = (documents.scalar scalars.Null, (tt, tt), k.0 scalars.Null)
 of_kind row children rest kinds.Scalar k v w each =
     let found = some_standing row.value w.form.0.0.value v.texts.value (λ e. k.0 (empty_members row.value e)) in

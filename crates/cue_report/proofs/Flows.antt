@@ -8,8 +8,8 @@ use Rattle.json.specs.Print.{ends, print, print_from, token_text}
 use Rattle.json.specs.Token.{Token}
 use Rattle.json.proofs.Printed.Tokens.{print_from-append}
 use Rattle.cue_device.proofs.Texts.{appends_none, appends_then, begins_now, begins_later}
-use Rattle.cue_device.specs.Texts.{Begins}
-use Rattle.cue_report.specs.Stream.{Flow, Streams, Breaks, ends_behind, opener}
+use Rattle.cue_device.specs.Texts.{WritesPrefix}
+use Rattle.cue_report.specs.Stream.{Flow, WritesTokens, WritesTokensPrefix, ends_behind, opener}
 
 -- ---- what a writer holds behind the token that is not told
 pub behind_opener : (primed : Bool) (tokens rest : List Token) → tokens ≡ opener primed ∷ rest
@@ -48,7 +48,7 @@ ends_append owes [] us = refl
 ends_append owes (t ∷ ts) us = ends_append (ends t) ts us
 
 -- the text of both is that of the first ones, of which some is put, and of the others
-text_then : (u v : Flow) (ts us : List Token) (a : Streams u v ts)
+text_then : (u v : Flow) (ts us : List Token) (a : WritesTokens u v ts)
     → u.stream.pending ++ print_from u.stream.owes (ts ++ us) ≡ a.put ++ (v.stream.pending ++ print_from v.stream.owes us)
 text_then u v ts us a =
     let later = print_from (ends_behind u.stream.owes ts) us in
@@ -56,7 +56,7 @@ text_then u v ts us a =
     ∙ ap (λ t. t ++ later) a.whole ∙ append_assoc a.put v.stream.pending later
     ∙ ap (λ o. a.put ++ (v.stream.pending ++ print_from o us)) (sym a.owes)
 
-pub streams_then : (u v w : Flow) (ts us : List Token) → Streams u v ts → Streams v w us → Streams u w (ts ++ us)
+pub streams_then : (u v w : Flow) (ts us : List Token) → WritesTokens u v ts → WritesTokens v w us → WritesTokens u w (ts ++ us)
 streams_then u v w ts us a b = record {
   put = a.put ++ b.put;
   known = appends_then u.known v.known w.known a.put b.put a.known b.known;
@@ -64,23 +64,23 @@ streams_then u v w ts us a b = record {
   owes = b.owes ∙ ap (λ o. ends_behind o us) a.owes ∙ sym (ends_append u.stream.owes ts us);
 }
 
-pub breaks_later : (u v : Flow) (known : Option (List ℕ)) (ts us : List Token) → Streams u v ts → Breaks v known us → Breaks u known (ts ++ us)
+pub breaks_later : (u v : Flow) (known : Option (List ℕ)) (ts us : List Token) → WritesTokens u v ts → WritesTokensPrefix v known us → WritesTokensPrefix u known (ts ++ us)
 breaks_later u v known ts us a b =
-    subst (Begins u.known known) (sym (text_then u v ts us a)) (begins_later u.known v.known known a.put (v.stream.pending ++ print_from v.stream.owes us) a.known b)
+    subst (WritesPrefix u.known known) (sym (text_then u v ts us a)) (begins_later u.known v.known known a.put (v.stream.pending ++ print_from v.stream.owes us) a.known b)
 
-pub breaks_now : (u : Flow) (known : Option (List ℕ)) (ts us : List Token) → Breaks u known ts → Breaks u known (ts ++ us)
+pub breaks_now : (u : Flow) (known : Option (List ℕ)) (ts us : List Token) → WritesTokensPrefix u known ts → WritesTokensPrefix u known (ts ++ us)
 breaks_now u known ts us b =
     let later = print_from (ends_behind u.stream.owes ts) us in
-    subst (Begins u.known known)
+    subst (WritesPrefix u.known known)
     (append_assoc u.stream.pending (print_from u.stream.owes ts) later ∙ ap (λ t. u.stream.pending ++ t) (sym (print_from-append u.stream.owes ts us)))
     (begins_now u.known known (u.stream.pending ++ print_from u.stream.owes ts) later b)
 
 -- nothing of some tokens was told: so it is with others in their place
-pub breaks_any : (u : Flow) (known : Option (List ℕ)) (ts : List Token) → Breaks u known [] → Breaks u known ts
+pub breaks_any : (u : Flow) (known : Option (List ℕ)) (ts : List Token) → WritesTokensPrefix u known [] → WritesTokensPrefix u known ts
 breaks_any u known ts b = breaks_now u known [] ts b
 
 -- ---- one token, and one part
-pub stays : (u v : Flow) → v.known ≡ u.known → v.stream.pending ≡ u.stream.pending → v.stream.owes ≡ u.stream.owes → Streams u v []
+pub stays : (u v : Flow) → v.known ≡ u.known → v.stream.pending ≡ u.stream.pending → v.stream.owes ≡ u.stream.owes → WritesTokens u v []
 unfolding print_from
 stays u v k p o = record {
   put = [];
@@ -89,7 +89,7 @@ stays u v k p o = record {
   owes = o;
 }
 
-pub wrote : (u v : Flow) (token : Token) → v.known ≡ u.known → v.stream.pending ≡ u.stream.pending ++ print_from u.stream.owes (token ∷ []) → v.stream.owes ≡ ends token → Streams u v (token ∷ [])
+pub wrote : (u v : Flow) (token : Token) → v.known ≡ u.known → v.stream.pending ≡ u.stream.pending ++ print_from u.stream.owes (token ∷ []) → v.stream.owes ≡ ends token → WritesTokens u v (token ∷ [])
 wrote u v token k p o = record {
   put = [];
   known = subst (λ w. Appends u.known w []) (sym k) (appends_none u.known);
@@ -97,7 +97,7 @@ wrote u v token k p o = record {
   owes = o;
 }
 
-pub drained : (u v : Flow) (part : List ℕ) → part ≡ u.stream.pending → Appends u.known v.known part → v.stream.pending ≡ [] → v.stream.owes ≡ u.stream.owes → Streams u v []
+pub drained : (u v : Flow) (part : List ℕ) → part ≡ u.stream.pending → Appends u.known v.known part → v.stream.pending ≡ [] → v.stream.owes ≡ u.stream.owes → WritesTokens u v []
 unfolding print_from
 drained u v part e a p o = record {
   put = part;
@@ -106,5 +106,5 @@ drained u v part e a p o = record {
   owes = o;
 }
 
-pub drain_begun : (u : Flow) (known : Option (List ℕ)) (part : List ℕ) → part ≡ u.stream.pending → Begins u.known known part → Breaks u known []
-drain_begun u known part e b = subst (λ t. Begins u.known known (t ++ print_from u.stream.owes [])) e (begins_now u.known known part (print_from u.stream.owes []) b)
+pub drain_begun : (u : Flow) (known : Option (List ℕ)) (part : List ℕ) → part ≡ u.stream.pending → WritesPrefix u.known known part → WritesTokensPrefix u known []
+drain_begun u known part e b = subst (λ t. WritesPrefix u.known known (t ++ print_from u.stream.owes [])) e (begins_now u.known known part (print_from u.stream.owes []) b)

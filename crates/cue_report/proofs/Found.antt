@@ -9,14 +9,14 @@ use Rattle.cue_lattice.specs.Path as paths
 use Rattle.cue_lattice.specs.Path.{label, index, step_cmp, Path}
 use Rattle.cue_lattice.specs.Question.{level_at_most}
 use Rattle.cue_row.specs.declared.parts.RowParts.{RowParts as Row}
-use Rattle.cue_row.specs.Row.{Refuses, IsRow}
+use Rattle.cue_row.specs.Row.{RefusesAsked, IsRow}
 use Rattle.cue_table.specs.Form as form
-use Rattle.cue_table.specs.Form.{AreBranches, AreWithin, IsBelowAll, IsKept, IsRestOf, IsTable}
-use Rattle.cue_table.specs.Tree.{Tree, node, Children, none, child, Rest, no_rest, onward, row_of, rest_of, if_equal, find, step_into}
+use Rattle.cue_table.specs.Form.{AreBranches, AreWithinDepth, IsStepBelowAll, IsRowKept, IsRestOf, IsTable}
+use Rattle.cue_table.specs.Tree.{Tree, node, Children, none, child, Rest, no_rest, onward, row_of, rest_below, if_equal, find, step_into}
 use Rattle.cue_report.specs.Answers.{IsDemanded, HasNoValue, IsNotAllowed}
 use Rattle.cue_report.specs.Inner.GapSearch.{IsBarred}
 use Rattle.cue_report.specs.Listing.{IsConflict, AreConflicts, IsRising}
-use Rattle.cue_report.specs.Inner.Search.{under, told_under, only_if, has_no_value, is_demanded, is_refused, conflict_here, conflicts_in, conflicts_below, conflicts_onward, each_index, least_at}
+use Rattle.cue_report.specs.Inner.Search.{conflict_under, conflicts_under, only_if, has_no_value, is_demanded, is_refused, conflict_here, conflicts_in, conflicts_below, conflicts_onward, each_index, least_at}
 use Rattle.cue_report.specs.declared.conflict.Conflict.{Conflict}
 use Rattle.cue_report.proofs.Empty.{same_truth}
 use Rattle.cue_report.proofs.Elements.{place_of, less_index, each_all, each_one, each_behind, each_below, each_rising}
@@ -47,7 +47,7 @@ value_below tree inner step path f =
 conflict_up :
     (not_allowed : Bool) (tree inner : Tree Row) (step : paths.Step) (conflict : Conflict) → step_into tree step ≡ Some inner
     → is_demanded (row_of tree) step (row_of inner) ≡ true → IsConflictIn (is_refused (row_of tree) step) inner conflict
-    → IsConflictIn not_allowed tree (under (step ∷ []) conflict)
+    → IsConflictIn not_allowed tree (conflict_under (step ∷ []) conflict)
 conflict_up not_allowed tree inner step conflict f d h = record {
   demanded = demanded_up tree inner step (seen tree inner step f) conflict.path ((first_demanded tree inner step (seen tree inner step f)).0 d) h.demanded;
   no_value = let same = value_below tree inner step conflict.path f in both_ways h.no_value (same.1, same.0);
@@ -96,7 +96,7 @@ conflict_stands not_allowed tree step conflict path e f h =
         open_below tree step path (level_at_most 0) f (subst P (sym g) (d above [] (label text) g))
 
 -- ---- at the place itself
-here_sound : (not_allowed : Bool) (tree : Tree Row) → form.IsRow IsRow (row_of tree) → AllByRecursion (IsConflictIn not_allowed tree) (conflict_here (has_no_value (row_of tree)) not_allowed)
+here_sound : (not_allowed : Bool) (tree : Tree Row) → form.IsTableRow IsRow (row_of tree) → AllByRecursion (IsConflictIn not_allowed tree) (conflict_here (has_no_value (row_of tree)) not_allowed)
 here_sound not_allowed tree r = cases (has_no_value (row_of tree) || not_allowed) refl where
   none_before : (before after : Path) (step : paths.Step) → [] ≡ before ++ step ∷ after → ⊥
   none_before [] after step e = cc
@@ -113,11 +113,11 @@ here_sound not_allowed tree r = cases (has_no_value (row_of tree) || not_allowed
     },
     tt,
   ) where
-    value : (t : Tree Row) → form.IsRow IsRow (row_of t) → IsTrue (has_no_value (row_of t)) ↔ HasNoValue (Told t) []
+    value : (t : Tree Row) → form.IsTableRow IsRow (row_of t) → IsTrue (has_no_value (row_of t)) ↔ HasNoValue (Told t) []
     value (node row children rest) r = no_value_is row r
 
 here_complete :
-    (not_allowed : Bool) (tree : Tree Row) (conflict : Conflict) → form.IsRow IsRow (row_of tree) → conflict.path ≡ [] → IsConflictIn not_allowed tree conflict
+    (not_allowed : Bool) (tree : Tree Row) (conflict : Conflict) → form.IsTableRow IsRow (row_of tree) → conflict.path ≡ [] → IsConflictIn not_allowed tree conflict
     → OneOf (λ y. y ≡ conflict) (conflict_here (has_no_value (row_of tree)) not_allowed)
 here_complete not_allowed (node row children rest) conflict r e h =
     let value : IsTrue conflict.no_value ↔ NoValueAt row = subst (λ p. IsTrue conflict.no_value ↔ HasNoValue (Told (node row children rest)) p) e h.no_value in
@@ -130,7 +130,7 @@ here_complete not_allowed (node row children rest) conflict r e h =
     (inl (λ i. record { path = sym e i; no_value = v i; not_allowed = a i }))
 
 -- ---- below it
-row_form : (tree : Tree Row) → IsTable Refuses IsRow tree → form.IsRow IsRow (row_of tree)
+row_form : (tree : Tree Row) → IsTable RefusesAsked IsRow tree → form.IsTableRow IsRow (row_of tree)
 row_form (node None children rest) h = tt
 row_form (node (Some row) children rest) h = h.0.0
 
@@ -138,7 +138,7 @@ pub found_first : (step : paths.Step) (tree : Tree Row) (children : Children Row
 found_first step tree children = ap (λ o. if_equal o tree (find step children)) (same_step step)
 
 -- a step below all branches is below that of each
-pub below_found : (next step : paths.Step) (tree : Tree Row) (children : Children Row) → IsBelowAll next children → find step children ≡ Some tree → step_cmp next step ≡ Less
+pub below_found : (next step : paths.Step) (tree : Tree Row) (children : Children Row) → IsStepBelowAll next children → find step children ≡ Some tree → step_cmp next step ≡ Less
 below_found next step tree none b f = cc
 below_found next step tree (child s t cs) b f = take (step_cmp step s) refl f (λ g. below_found next step tree cs b.1 g) where
   take : (o : Ordering) → step_cmp step s ≡ o → if_equal o t (find step cs) ≡ Some tree → (find step cs ≡ Some tree → step_cmp next step ≡ Less) → step_cmp next step ≡ Less
@@ -147,7 +147,7 @@ below_found next step tree (child s t cs) b f = take (step_cmp step s) refl f (�
   take Greater e g k = k g
 
 -- a branch further on is found too
-pub found_later : (next step : paths.Step) (here tree : Tree Row) (children : Children Row) → IsBelowAll next children → find step children ≡ Some tree → find step (child next here children) ≡ Some tree
+pub found_later : (next step : paths.Step) (here tree : Tree Row) (children : Children Row) → IsStepBelowAll next children → find step children ≡ Some tree → find step (child next here children) ≡ Some tree
 found_later next step here tree children b f = ap (λ o. if_equal o here (find step children)) (reverse_cmp next step Less (below_found next step tree children b f)) ∙ f
 
 -- which branches of a tree these are
@@ -155,7 +155,7 @@ abbrev pub AreAmong : Tree Row → Children Row → Type 0
 AreAmong whole children = (step : paths.Step) (inner : Tree Row) → find step children ≡ Some inner → step_into whole step ≡ Some inner
 
 mutual
-  sound_in : (not_allowed : Bool) (tree : Tree Row) → IsTable Refuses IsRow tree → AllByRecursion (IsConflictIn not_allowed tree) (conflicts_in not_allowed tree)
+  sound_in : (not_allowed : Bool) (tree : Tree Row) → IsTable RefusesAsked IsRow tree → AllByRecursion (IsConflictIn not_allowed tree) (conflicts_in not_allowed tree)
   sound_in not_allowed (node row children rest) h =
       all_append (IsConflictIn not_allowed (node row children rest)) (conflict_here (has_no_value row) not_allowed) (conflicts_below row children ++ conflicts_onward row rest)
       (here_sound not_allowed (node row children rest) (row_form (node row children rest) h))
@@ -164,17 +164,17 @@ mutual
       (sound_onward not_allowed (node row children rest) children rest h.2 refl))
 
   sound_below :
-      (not_allowed : Bool) (whole : Tree Row) (children : Children Row) → AreBranches (IsKept Refuses IsRow) children → AreAmong whole children
+      (not_allowed : Bool) (whole : Tree Row) (children : Children Row) → AreBranches (IsRowKept RefusesAsked IsRow) children → AreAmong whole children
       → AllByRecursion (IsConflictIn not_allowed whole) (conflicts_below (row_of whole) children)
   sound_below not_allowed whole none h m = tt
   sound_below not_allowed whole (child step tree children) h m =
       let inner : List Conflict = conflicts_in (is_refused (row_of whole) step) tree in
       let found : step_into whole step ≡ Some tree = m step tree (found_first step tree children) in
-      let first : AllByRecursion (IsConflictIn not_allowed whole) (only_if (is_demanded (row_of whole) step (row_of tree)) (map (under (step ∷ [])) inner)) =
-      only_when (is_demanded (row_of whole) step (row_of tree)) (map (under (step ∷ [])) inner) (λ d.
-      all_map (IsConflictIn (is_refused (row_of whole) step) tree) (IsConflictIn not_allowed whole) (under (step ∷ [])) inner
+      let first : AllByRecursion (IsConflictIn not_allowed whole) (only_if (is_demanded (row_of whole) step (row_of tree)) (map (conflict_under (step ∷ [])) inner)) =
+      only_when (is_demanded (row_of whole) step (row_of tree)) (map (conflict_under (step ∷ [])) inner) (λ d.
+      all_map (IsConflictIn (is_refused (row_of whole) step) tree) (IsConflictIn not_allowed whole) (conflict_under (step ∷ [])) inner
       (λ conflict k. conflict_up not_allowed whole tree step conflict found d k) (sound_in (is_refused (row_of whole) step) tree h.2)) in
-      all_append (IsConflictIn not_allowed whole) (only_if (is_demanded (row_of whole) step (row_of tree)) (map (under (step ∷ [])) inner)) (conflicts_below (row_of whole) children)
+      all_append (IsConflictIn not_allowed whole) (only_if (is_demanded (row_of whole) step (row_of tree)) (map (conflict_under (step ∷ [])) inner)) (conflicts_below (row_of whole) children)
       first (sound_below not_allowed whole children h.3 (λ next branch f. m next branch (found_later step next tree branch children h.0 f)))
     where
       only_when : (b : Bool) (xs : List Conflict) → (b ≡ true → AllByRecursion (IsConflictIn not_allowed whole) xs) → AllByRecursion (IsConflictIn not_allowed whole) (only_if b xs)
@@ -182,7 +182,7 @@ mutual
       only_when false xs k = tt
 
   sound_onward :
-      (not_allowed : Bool) (whole : Tree Row) (children : Children Row) (rest : Rest Row) → IsRestOf (IsKept Refuses IsRow) children rest → rest_of whole ≡ rest
+      (not_allowed : Bool) (whole : Tree Row) (children : Children Row) (rest : Rest Row) → IsRestOf (IsRowKept RefusesAsked IsRow) children rest → rest_below whole ≡ rest
       → AllByRecursion (IsConflictIn not_allowed whole) (conflicts_onward (row_of whole) rest)
   sound_onward not_allowed whole children no_rest h e = tt
   sound_onward not_allowed whole children (onward n tree) h e =
@@ -204,14 +204,14 @@ taken :
     (row : Option Row) (next : paths.Step) (tree : Tree Row) (children : Children Row) (step : paths.Step) (inner : Tree Row) (conflict : Conflict) (o : Ordering)
     → step_cmp step next ≡ o → if_equal o tree (find step children) ≡ Some inner
     → is_demanded row step (row_of inner) ≡ true → IsConflictIn (is_refused row step) inner conflict
-    → (find step children ≡ Some inner → OneOf (λ y. y ≡ under (step ∷ []) conflict) (conflicts_below row children))
+    → (find step children ≡ Some inner → OneOf (λ y. y ≡ conflict_under (step ∷ []) conflict) (conflicts_below row children))
     → (IsConflictIn (is_refused row next) tree conflict → OneOf (λ y. y ≡ conflict) (conflicts_in (is_refused row next) tree))
-    → OneOf (λ y. y ≡ under (step ∷ []) conflict) (conflicts_below row (child next tree children))
+    → OneOf (λ y. y ≡ conflict_under (step ∷ []) conflict) (conflicts_below row (child next tree children))
 taken row next tree children step inner conflict Less e g d k later first =
-    one_right (λ y. y ≡ under (step ∷ []) conflict) (only_if (is_demanded row next (row_of tree)) (map (under (next ∷ [])) (conflicts_in (is_refused row next) tree)))
+    one_right (λ y. y ≡ conflict_under (step ∷ []) conflict) (only_if (is_demanded row next (row_of tree)) (map (conflict_under (next ∷ [])) (conflicts_in (is_refused row next) tree)))
     (conflicts_below row children) (later g)
 taken row next tree children step inner conflict Greater e g d k later first =
-    one_right (λ y. y ≡ under (step ∷ []) conflict) (only_if (is_demanded row next (row_of tree)) (map (under (next ∷ [])) (conflicts_in (is_refused row next) tree)))
+    one_right (λ y. y ≡ conflict_under (step ∷ []) conflict) (only_if (is_demanded row next (row_of tree)) (map (conflict_under (next ∷ [])) (conflicts_in (is_refused row next) tree)))
     (conflicts_below row children) (later g)
 taken row next tree children step inner conflict Equal e g d k later first =
     let same : step ≡ next = equal_steps step next e in
@@ -219,13 +219,13 @@ taken row next tree children step inner conflict Equal e g d k later first =
     let asked : is_demanded row next (row_of tree) ≡ true = subst (λ s. is_demanded row s (row_of tree) ≡ true) same (subst (λ t. is_demanded row step (row_of t) ≡ true) tree_is d) in
     let inside : IsConflictIn (is_refused row next) tree conflict = subst (λ s. IsConflictIn (is_refused row s) tree conflict) same (subst (λ t. IsConflictIn (is_refused row step) t conflict) tree_is k) in
     let found : List Conflict = conflicts_in (is_refused row next) tree in
-    one_left (λ y. y ≡ under (step ∷ []) conflict) (only_if (is_demanded row next (row_of tree)) (map (under (next ∷ [])) found)) (conflicts_below row children)
-    (only_one (is_demanded row next (row_of tree)) (λ y. y ≡ under (step ∷ []) conflict) (map (under (next ∷ [])) found) asked
-    (subst (λ s. OneOf (λ y. y ≡ under (s ∷ []) conflict) (map (under (next ∷ [])) found)) (sym same)
-    (one_map (λ y. y ≡ conflict) (λ y. y ≡ under (next ∷ []) conflict) (under (next ∷ [])) found (λ y f. ap (under (next ∷ [])) f) (first inside))))
+    one_left (λ y. y ≡ conflict_under (step ∷ []) conflict) (only_if (is_demanded row next (row_of tree)) (map (conflict_under (next ∷ [])) found)) (conflicts_below row children)
+    (only_one (is_demanded row next (row_of tree)) (λ y. y ≡ conflict_under (step ∷ []) conflict) (map (conflict_under (next ∷ [])) found) asked
+    (subst (λ s. OneOf (λ y. y ≡ conflict_under (s ∷ []) conflict) (map (conflict_under (next ∷ [])) found)) (sym same)
+    (one_map (λ y. y ≡ conflict) (λ y. y ≡ conflict_under (next ∷ []) conflict) (conflict_under (next ∷ [])) found (λ y f. ap (conflict_under (next ∷ [])) f) (first inside))))
 
 mutual
-  complete_in : (not_allowed : Bool) (tree : Tree Row) (conflict : Conflict) (path : Path) → conflict.path ≡ path → IsTable Refuses IsRow tree → IsConflictIn not_allowed tree conflict → OneOf (λ y. y ≡ conflict) (conflicts_in not_allowed tree)
+  complete_in : (not_allowed : Bool) (tree : Tree Row) (conflict : Conflict) (path : Path) → conflict.path ≡ path → IsTable RefusesAsked IsRow tree → IsConflictIn not_allowed tree conflict → OneOf (λ y. y ≡ conflict) (conflicts_in not_allowed tree)
   complete_in not_allowed (node row children rest) conflict [] e h k =
       one_left (λ y. y ≡ conflict) (conflict_here (has_no_value row) not_allowed) (conflicts_below row children ++ conflicts_onward row rest)
       (here_complete not_allowed (node row children rest) conflict (row_form (node row children rest) h) e k)
@@ -234,31 +234,31 @@ mutual
       let below_it = conflict_down not_allowed (node row children rest) found.0 step conflict path e found.1 k in
       one_right (λ y. y ≡ conflict) (conflict_here (has_no_value row) not_allowed) (conflicts_below row children ++ conflicts_onward row rest)
       (subst (λ p. OneOf (λ y. y ≡ record conflict { path = p }) (conflicts_below row children ++ conflicts_onward row rest)) (sym e)
-      (into_cases (node row children rest) found.0 step (OneOf (λ y. y ≡ under (step ∷ []) (record conflict { path = path })) (conflicts_below row children ++ conflicts_onward row rest)) found.1
-      (λ g. one_left (λ y. y ≡ under (step ∷ []) (record conflict { path = path })) (conflicts_below row children) (conflicts_onward row rest)
+      (into_cases (node row children rest) found.0 step (OneOf (λ y. y ≡ conflict_under (step ∷ []) (record conflict { path = path })) (conflicts_below row children ++ conflicts_onward row rest)) found.1
+      (λ g. one_left (λ y. y ≡ conflict_under (step ∷ []) (record conflict { path = path })) (conflicts_below row children) (conflicts_onward row rest)
       (complete_below row children step found.0 (record conflict { path = path }) h.1 g below_it.0 below_it.1))
-      (λ n i is r l. one_right (λ y. y ≡ under (step ∷ []) (record conflict { path = path })) (conflicts_below row children) (conflicts_onward row rest)
+      (λ n i is r l. one_right (λ y. y ≡ conflict_under (step ∷ []) (record conflict { path = path })) (conflicts_below row children) (conflicts_onward row rest)
       (complete_onward row children rest step n i found.0 (record conflict { path = path }) h.2 is r l below_it.0 below_it.1)))))
       (found_cases (step_into (node row children rest) step))
 
   complete_onward :
-      (row : Option Row) (children : Children Row) (rest : Rest Row) (step : paths.Step) (n i : ℕ) (inner : Tree Row) (conflict : Conflict) → IsRestOf (IsKept Refuses IsRow) children rest
+      (row : Option Row) (children : Children Row) (rest : Rest Row) (step : paths.Step) (n i : ℕ) (inner : Tree Row) (conflict : Conflict) → IsRestOf (IsRowKept RefusesAsked IsRow) children rest
       → step ≡ index i → rest ≡ onward n inner → n ≤ i → is_demanded row step (row_of inner) ≡ true → IsConflictIn (is_refused row step) inner conflict
-      → OneOf (λ y. y ≡ under (step ∷ []) conflict) (conflicts_onward row rest)
+      → OneOf (λ y. y ≡ conflict_under (step ∷ []) conflict) (conflicts_onward row rest)
   complete_onward row children no_rest step n i inner conflict h is e l d k = cc
   complete_onward row children (onward number tree) step n i inner conflict h is e l d k =
       let from : number ≡ n = cc in
       let same : inner ≡ tree = cc in
       let low : i < least_at row = is_below row i (subst (λ s. is_demanded row s (row_of inner) ≡ true) is d) in
       let inside : IsConflictIn (is_refused row (index i)) inner conflict = subst (λ s. IsConflictIn (is_refused row s) inner conflict) is k in
-      subst (λ s. OneOf (λ y. y ≡ under (s ∷ []) conflict) (each_index number (least_at row - number) (conflicts_in false tree))) (sym is)
+      subst (λ s. OneOf (λ y. y ≡ conflict_under (s ∷ []) conflict) (each_index number (least_at row - number) (conflicts_in false tree))) (sym is)
       (each_one number (least_at row - number) i (conflicts_in false tree) conflict (omega arith) (omega arith)
       (complete_in false tree conflict conflict.path refl h.3 (subst (λ t. IsConflictIn false t conflict) same (subst (λ b. IsConflictIn b inner conflict) (index_allowed row i) inside))))
 
   complete_below :
-      (row : Option Row) (children : Children Row) (step : paths.Step) (inner : Tree Row) (conflict : Conflict) → AreBranches (IsKept Refuses IsRow) children
+      (row : Option Row) (children : Children Row) (step : paths.Step) (inner : Tree Row) (conflict : Conflict) → AreBranches (IsRowKept RefusesAsked IsRow) children
       → find step children ≡ Some inner → is_demanded row step (row_of inner) ≡ true → IsConflictIn (is_refused row step) inner conflict
-      → OneOf (λ y. y ≡ under (step ∷ []) conflict) (conflicts_below row children)
+      → OneOf (λ y. y ≡ conflict_under (step ∷ []) conflict) (conflicts_below row children)
   complete_below row none step inner conflict h f d k = cc
   complete_below row (child next tree children) step inner conflict h f d k =
       taken row next tree children step inner conflict (step_cmp step next) refl f d k
@@ -266,12 +266,12 @@ mutual
       (λ inside. complete_in (is_refused row next) tree conflict conflict.path refl h.2 inside)
 
 -- ---- in the order of their paths
-below_behind : (low : paths.Step) (row : Option Row) (children : Children Row) → IsBelowAll low children → AreBehind place_of low (conflicts_below row children)
+below_behind : (low : paths.Step) (row : Option Row) (children : Children Row) → IsStepBelowAll low children → AreBehind place_of low (conflicts_below row children)
 below_behind low row none h = tt
 below_behind low row (child step tree children) h =
-    all_append _ (only_if (is_demanded row step (row_of tree)) (map (under (step ∷ [])) (conflicts_in (is_refused row step) tree))) (conflicts_below row children)
-    (when (is_demanded row step (row_of tree)) (map (under (step ∷ [])) (conflicts_in (is_refused row step) tree))
-    (lifted_behind place_of (under (step ∷ [])) step (λ x. refl) low (conflicts_in (is_refused row step) tree) h.0))
+    all_append _ (only_if (is_demanded row step (row_of tree)) (map (conflict_under (step ∷ [])) (conflicts_in (is_refused row step) tree))) (conflicts_below row children)
+    (when (is_demanded row step (row_of tree)) (map (conflict_under (step ∷ [])) (conflicts_in (is_refused row step) tree))
+    (lifted_behind place_of (conflict_under (step ∷ [])) step (λ x. refl) low (conflicts_in (is_refused row step) tree) h.0))
     (below_behind low row children h.1)
   where
     when : (b : Bool) (xs : List Conflict) → AreBehind place_of low xs → AreBehind place_of low (only_if b xs)
@@ -282,14 +282,14 @@ below_behind low row (child step tree children) h =
 root_first : (row : Option Row) (children : Children Row) → AllByRecursion (λ y. paths.path_cmp [] (place_of y) ≡ Less) (conflicts_below row children)
 root_first row none = tt
 root_first row (child step tree children) =
-    all_append _ (only_if (is_demanded row step (row_of tree)) (map (under (step ∷ [])) (conflicts_in (is_refused row step) tree))) (conflicts_below row children)
+    all_append _ (only_if (is_demanded row step (row_of tree)) (map (conflict_under (step ∷ [])) (conflicts_in (is_refused row step) tree))) (conflicts_below row children)
     (when (is_demanded row step (row_of tree)) (conflicts_in (is_refused row step) tree)) (root_first row children)
   where
-    each : (xs : List Conflict) → AllByRecursion (λ y. paths.path_cmp [] (place_of y) ≡ Less) (map (under (step ∷ [])) xs)
+    each : (xs : List Conflict) → AllByRecursion (λ y. paths.path_cmp [] (place_of y) ≡ Less) (map (conflict_under (step ∷ [])) xs)
     each [] = tt
     each (x ∷ xs) = (refl, each xs)
 
-    when : (b : Bool) (xs : List Conflict) → AllByRecursion (λ y. paths.path_cmp [] (place_of y) ≡ Less) (only_if b (map (under (step ∷ [])) xs))
+    when : (b : Bool) (xs : List Conflict) → AllByRecursion (λ y. paths.path_cmp [] (place_of y) ≡ Less) (only_if b (map (conflict_under (step ∷ [])) xs))
     when true xs = each xs
     when false xs = tt
 
@@ -314,14 +314,14 @@ abbrev AreBeforeRest : Children Row → Rest Row → Type 0
 AreBeforeRest none rest = Unit {0}
 AreBeforeRest (child step tree children) rest = StandsBefore step rest × AreBeforeRest children rest
 
-before_rest : (children : Children Row) (rest : Rest Row) → IsRestOf (IsKept Refuses IsRow) children rest → AreBeforeRest children rest
+before_rest : (children : Children Row) (rest : Rest Row) → IsRestOf (IsRowKept RefusesAsked IsRow) children rest → AreBeforeRest children rest
 before_rest children no_rest h = all children where
   all : (cs : Children Row) → AreBeforeRest cs no_rest
   all none = tt
   all (child (label text) tree cs) = (tt, all cs)
   all (child (index i) tree cs) = (tt, all cs)
 before_rest children (onward n inner) h = all children h.0 where
-  all : (cs : Children Row) → AreWithin n cs → AreBeforeRest cs (onward n inner)
+  all : (cs : Children Row) → AreWithinDepth n cs → AreBeforeRest cs (onward n inner)
   all none w = tt
   all (child (label text) tree cs) w = (tt, all cs w)
   all (child (index i) tree cs) w = (w.0, all cs w.1)
@@ -329,9 +329,9 @@ before_rest children (onward n inner) h = all children h.0 where
 below_before : (row : Option Row) (children : Children Row) (rest : Rest Row) → AreBeforeRest children rest → AreBefore place_of (conflicts_below row children) (conflicts_onward row rest)
 below_before row none rest h = tt
 below_before row (child step tree children) rest h =
-    all_append _ (only_if (is_demanded row step (row_of tree)) (map (under (step ∷ [])) (conflicts_in (is_refused row step) tree))) (conflicts_below row children)
-    (when (is_demanded row step (row_of tree)) (map (under (step ∷ [])) (conflicts_in (is_refused row step) tree))
-    (lifted_before place_of (under (step ∷ [])) step (λ x. refl) (conflicts_in (is_refused row step) tree) (conflicts_onward row rest)
+    all_append _ (only_if (is_demanded row step (row_of tree)) (map (conflict_under (step ∷ [])) (conflicts_in (is_refused row step) tree))) (conflicts_below row children)
+    (when (is_demanded row step (row_of tree)) (map (conflict_under (step ∷ [])) (conflicts_in (is_refused row step) tree))
+    (lifted_before place_of (conflict_under (step ∷ [])) step (λ x. refl) (conflicts_in (is_refused row step) tree) (conflicts_onward row rest)
     (onward_behind step row rest h.0)))
     (below_before row children rest h.1)
   where
@@ -340,7 +340,7 @@ below_before row (child step tree children) rest h =
     when false xs k = tt
 
 mutual
-  rising_in : (not_allowed : Bool) (tree : Tree Row) → IsTable Refuses IsRow tree → IsRising place_of (conflicts_in not_allowed tree)
+  rising_in : (not_allowed : Bool) (tree : Tree Row) → IsTable RefusesAsked IsRow tree → IsRising place_of (conflicts_in not_allowed tree)
   rising_in not_allowed (node row children rest) h =
       with_here (has_no_value row || not_allowed) (record { path = []; no_value = has_no_value row; not_allowed = not_allowed }) (conflicts_below row children ++ conflicts_onward row rest)
       refl
@@ -352,25 +352,25 @@ mutual
       with_here true x xs e k f = (subst (λ p. AllByRecursion (λ y. paths.path_cmp p (place_of y) ≡ Less) xs) (sym e) f, k)
       with_here false x xs e k f = k
 
-  rising_onward : (row : Option Row) (children : Children Row) (rest : Rest Row) → IsRestOf (IsKept Refuses IsRow) children rest → IsRising place_of (conflicts_onward row rest)
+  rising_onward : (row : Option Row) (children : Children Row) (rest : Rest Row) → IsRestOf (IsRowKept RefusesAsked IsRow) children rest → IsRising place_of (conflicts_onward row rest)
   rising_onward row children no_rest h = tt
   rising_onward row children (onward n tree) h = each_rising n (least_at row - n) (conflicts_in false tree) (rising_in false tree h.3)
 
-  rising_below : (row : Option Row) (children : Children Row) → AreBranches (IsKept Refuses IsRow) children → IsRising place_of (conflicts_below row children)
+  rising_below : (row : Option Row) (children : Children Row) → AreBranches (IsRowKept RefusesAsked IsRow) children → IsRising place_of (conflicts_below row children)
   rising_below row none h = tt
   rising_below row (child step tree children) h =
       joined (is_demanded row step (row_of tree)) (conflicts_in (is_refused row step) tree) (conflicts_below row children)
       (rising_in (is_refused row step) tree h.2) (rising_below row children h.3) (below_behind step row children h.0)
     where
-      joined : (b : Bool) (xs ys : List Conflict) → IsRising place_of xs → IsRising place_of ys → AreBehind place_of step ys → IsRising place_of (only_if b (map (under (step ∷ [])) xs) ++ ys)
+      joined : (b : Bool) (xs ys : List Conflict) → IsRising place_of xs → IsRising place_of ys → AreBehind place_of step ys → IsRising place_of (only_if b (map (conflict_under (step ∷ [])) xs) ++ ys)
       joined true xs ys k l f =
-          rising_append place_of (map (under (step ∷ [])) xs) ys (rising_lifted place_of (under (step ∷ [])) step (λ x. refl) xs k) l
-          (lifted_before place_of (under (step ∷ [])) step (λ x. refl) xs ys f)
+          rising_append place_of (map (conflict_under (step ∷ [])) xs) ys (rising_lifted place_of (conflict_under (step ∷ [])) step (λ x. refl) xs k) l
+          (lifted_before place_of (conflict_under (step ∷ [])) step (λ x. refl) xs ys f)
       joined false xs ys k l f = l
 
 -- ---- the whole table
 -- what a search from the root finds are the conflicts of the table
-pub conflicts_found : (tree : Tree Row) → IsTable Refuses IsRow tree → AreConflicts (Told tree) (conflicts_in false tree)
+pub conflicts_found : (tree : Tree Row) → IsTable RefusesAsked IsRow tree → AreConflicts (Told tree) (conflicts_in false tree)
 conflicts_found tree h = record {
   sound = all_from (IsConflictIn false tree) (IsConflict (Told tree)) (conflicts_in false tree)
       (λ x k. record { demanded = k.demanded; no_value = k.no_value; not_allowed = both_ways k.barred (at_root (Told tree) x.path); cause = k.cause })
@@ -381,20 +381,20 @@ conflicts_found tree h = record {
 }
 
 -- the place of the root is the whole path
-pub under_root : (xs : List Conflict) → map (under []) xs ≡ xs
+pub under_root : (xs : List Conflict) → map (conflict_under []) xs ≡ xs
 under_root [] = refl
 under_root (x ∷ xs) = ap (λ ys. x ∷ ys) (under_root xs)
 
 pub root_told : {X : Type 0} (piece : Conflict → List X) (tree root : Tree Row) (path : Path) → root ≡ tree → path ≡ []
-    → told_under piece path (conflicts_in false root) ≡ flat_map piece (conflicts_in false tree)
+    → conflicts_under piece path (conflicts_in false root) ≡ flat_map piece (conflicts_in false tree)
 root_told piece tree root path r p =
-    ap (λ t. told_under piece path (conflicts_in false t)) r ∙ ap (λ q. told_under piece q (conflicts_in false tree)) p
+    ap (λ t. conflicts_under piece path (conflicts_in false t)) r ∙ ap (λ q. conflicts_under piece q (conflicts_in false tree)) p
     ∙ ap (flat_map piece) (under_root (conflicts_in false tree))
 
 -- a search that began with nothing has listed these
 pub from_nothing :
-    (tree root : Tree Row) (before after : List Conflict) (path : Path) → IsTable Refuses IsRow tree → root ≡ tree → before ≡ [] → path ≡ []
-    → after ≡ before ++ told_under (λ x. x ∷ []) path (conflicts_in false root) → AreConflicts (Told tree) after
+    (tree root : Tree Row) (before after : List Conflict) (path : Path) → IsTable RefusesAsked IsRow tree → root ≡ tree → before ≡ [] → path ≡ []
+    → after ≡ before ++ conflicts_under (λ x. x ∷ []) path (conflicts_in false root) → AreConflicts (Told tree) after
 from_nothing tree root before after path h r b p e =
     let found : after ≡ conflicts_in false tree =
     e ∙ ap (λ xs. before ++ xs) (root_told (λ x. x ∷ []) tree root path r p) ∙ ap (λ xs. xs ++ flat_map (λ x. x ∷ []) (conflicts_in false tree)) b
@@ -402,5 +402,5 @@ from_nothing tree root before after path h r b p e =
     subst (AreConflicts (Told tree)) (sym found) (conflicts_found tree h)
 
 -- and there are no others
-pub only_conflicts : (tree : Tree Row) → IsTable Refuses IsRow tree → (found : List Conflict) → AreConflicts (Told tree) found → conflicts_in false tree ≡ found
+pub only_conflicts : (tree : Tree Row) → IsTable RefusesAsked IsRow tree → (found : List Conflict) → AreConflicts (Told tree) found → conflicts_in false tree ≡ found
 only_conflicts tree h found are = one_list place_of (IsConflict (Told tree)) (IsConflict (Told tree)) (conflicts_in false tree) found (λ x p. p) (λ x p. p) (conflicts_found tree h) are

@@ -11,12 +11,12 @@ use Rattle.cue_lattice.specs.Path.{step_cmp, Path, path_cmp}
 use Rattle.cue_row.specs.declared.parts.RowParts.{RowParts as Row}
 use Rattle.cue_table.specs.Tree.{Tree, node, row_of, row_at}
 use Rattle.cue_report.specs.Answers.{IsDemanded, IsStepDemanded, IsNotAllowed}
-use Rattle.cue_report.specs.Gaps.{IsGap, AreGaps}
-use Rattle.cue_report.specs.Inner.GapSearch.{Adds, IsGapAt, IsBarred, IsGapIn, IsGapHere, above, told_above}
+use Rattle.cue_report.specs.Gaps.{IsReportGap, AreGaps}
+use Rattle.cue_report.specs.Inner.GapSearch.{WritesGapsWhere, IsGapAt, IsBarred, IsGapIn, IsGapHere, gap_above, gaps_above}
 use Rattle.cue_report.specs.Listing.{Lists}
 use Rattle.cue_report.specs.Inner.Search.{is_demanded, is_refused}
 use Rattle.cue_report.specs.declared.gap.Gap.{Gap}
-use Rattle.cue_report.specs.Telling.{Tally, Grows}
+use Rattle.cue_report.specs.Telling.{Tally, WritesPieces}
 use Rattle.cue_report.proofs.Texts.{listed}
 use Rattle.cue_report.proofs.Telling.{grows_none}
 use Rattle.cue_report.proofs.Empty.{same_truth}
@@ -30,7 +30,7 @@ place_of gap = gap.path
 pub gap_up :
     (not_allowed : Bool) (tree inner : Tree Row) (step : paths.Step) (gap : Gap) → IsSeen tree inner step
     → is_demanded (row_of tree) step (row_of inner) ≡ true → IsGapIn (is_refused (row_of tree) step) inner gap
-    → IsGapIn not_allowed tree (above (step ∷ []) gap)
+    → IsGapIn not_allowed tree (gap_above (step ∷ []) gap)
 gap_up not_allowed tree inner step gap same d h = record {
   demanded = demanded_up tree inner step same gap.path ((first_demanded tree inner step same).0 d) h.demanded;
   allowed = λ b. h.allowed ((barred_below tree inner step gap.path same).1 b);
@@ -80,26 +80,26 @@ module _
   still [] h = tt
   still (s ∷ path) h = kept s h
 
-  all_sound : AllByRecursion (λ gap. IsGapIn not_allowed tree gap × IsIn E gap.path) (xs ++ map (above (step ∷ [])) ys)
+  all_sound : AllByRecursion (λ gap. IsGapIn not_allowed tree gap × IsIn E gap.path) (xs ++ map (gap_above (step ∷ [])) ys)
   all_sound =
-      all_append (λ gap. IsGapIn not_allowed tree gap × IsIn E gap.path) xs (map (above (step ∷ [])) ys)
+      all_append (λ gap. IsGapIn not_allowed tree gap × IsIn E gap.path) xs (map (gap_above (step ∷ [])) ys)
       (all_from (λ gap. IsGapIn not_allowed tree gap × IsIn D gap.path) (λ gap. IsGapIn not_allowed tree gap × IsIn E gap.path) xs
       (λ gap h. (h.0, still gap.path h.1)) so_far.sound)
-      (all_map (IsGapIn (is_refused (row_of tree) step) inner) (λ gap. IsGapIn not_allowed tree gap × IsIn E gap.path) (above (step ∷ [])) ys
+      (all_map (IsGapIn (is_refused (row_of tree) step) inner) (λ gap. IsGapIn not_allowed tree gap × IsIn E gap.path) (gap_above (step ∷ [])) ys
       (λ gap h. (gap_up not_allowed tree inner step gap same asked h, new)) found.sound)
 
-  in_first : (x : Gap) → IsGapIn not_allowed tree x → IsIn D x.path → OneOf (λ y. y ≡ x) (xs ++ map (above (step ∷ [])) ys)
-  in_first x h d = one_left (λ y. y ≡ x) xs (map (above (step ∷ [])) ys) (so_far.complete x (h, d))
+  in_first : (x : Gap) → IsGapIn not_allowed tree x → IsIn D x.path → OneOf (λ y. y ≡ x) (xs ++ map (gap_above (step ∷ [])) ys)
+  in_first x h d = one_left (λ y. y ≡ x) xs (map (gap_above (step ∷ [])) ys) (so_far.complete x (h, d))
 
-  in_second : (x : Gap) (path : Path) → x.path ≡ step ∷ path → IsGapIn not_allowed tree x → OneOf (λ y. y ≡ x) (xs ++ map (above (step ∷ [])) ys)
+  in_second : (x : Gap) (path : Path) → x.path ≡ step ∷ path → IsGapIn not_allowed tree x → OneOf (λ y. y ≡ x) (xs ++ map (gap_above (step ∷ [])) ys)
   in_second x path e h =
       let low : Gap = record x { path = path } in
-      one_right (λ y. y ≡ x) xs (map (above (step ∷ [])) ys)
-      (subst (λ p. OneOf (λ y. y ≡ record x { path = p }) (map (above (step ∷ [])) ys)) (sym e)
-      (one_map (λ y. y ≡ low) (λ y. y ≡ above (step ∷ []) low) (above (step ∷ [])) ys (λ y f. ap (above (step ∷ [])) f)
+      one_right (λ y. y ≡ x) xs (map (gap_above (step ∷ [])) ys)
+      (subst (λ p. OneOf (λ y. y ≡ record x { path = p }) (map (gap_above (step ∷ [])) ys)) (sym e)
+      (one_map (λ y. y ≡ low) (λ y. y ≡ gap_above (step ∷ []) low) (gap_above (step ∷ [])) ys (λ y f. ap (gap_above (step ∷ [])) f)
       (found.complete low (gap_down not_allowed tree inner step x path e same h))))
 
-  all_found : (x : Gap) → IsGapIn not_allowed tree x → IsIn E x.path → OneOf (λ y. y ≡ x) (xs ++ map (above (step ∷ [])) ys)
+  all_found : (x : Gap) → IsGapIn not_allowed tree x → IsIn E x.path → OneOf (λ y. y ≡ x) (xs ++ map (gap_above (step ∷ [])) ys)
   all_found x h i = ⊎_elim
       (λ e. in_first x h (subst (IsIn D) (sym e) tt))
       (λ (s, path, e). ⊎_elim
@@ -112,17 +112,17 @@ module _
   in_order [] q h = refl
   in_order (s ∷ p) q h = ap (λ o. ordering_then o (path_cmp p q)) (before s h)
 
-  all_before : (x : Gap) (zs : List Gap) → IsIn D x.path → AllByRecursion (λ y. path_cmp (place_of x) (place_of y) ≡ Less) (map (above (step ∷ [])) zs)
+  all_before : (x : Gap) (zs : List Gap) → IsIn D x.path → AllByRecursion (λ y. path_cmp (place_of x) (place_of y) ≡ Less) (map (gap_above (step ∷ [])) zs)
   all_before x [] h = tt
   all_before x (z ∷ zs) h = (in_order x.path z.path h, all_before x zs h)
 
-  pub extended : UpTo not_allowed tree E (xs ++ map (above (step ∷ [])) ys)
+  pub extended : UpTo not_allowed tree E (xs ++ map (gap_above (step ∷ [])) ys)
   extended = record {
     sound = all_sound;
     complete = λ x h. all_found x h.0 h.1;
-    rising = rising_append place_of xs (map (above (step ∷ [])) ys) so_far.rising
-        (rising_lifted place_of (above (step ∷ [])) step (λ x. refl) ys found.rising)
-        (all_from (λ gap. IsGapIn not_allowed tree gap × IsIn D gap.path) (λ x. AllByRecursion (λ y. path_cmp (place_of x) (place_of y) ≡ Less) (map (above (step ∷ [])) ys)) xs
+    rising = rising_append place_of xs (map (gap_above (step ∷ [])) ys) so_far.rising
+        (rising_lifted place_of (gap_above (step ∷ [])) step (λ x. refl) ys found.rising)
+        (all_from (λ gap. IsGapIn not_allowed tree gap × IsIn D gap.path) (λ x. AllByRecursion (λ y. path_cmp (place_of x) (place_of y) ≡ Less) (map (gap_above (step ∷ [])) ys)) xs
         (λ gap h. all_before gap ys h.1) so_far.sound);
   }
 
@@ -247,29 +247,29 @@ one_here row missing g = record {
 -- what a look at a place adds
 pub looked_none :
     {X : Type 0} (piece : Gap → List X) (not_allowed : Bool) (row : Option Row) (path : Path) (tally : Tally X)
-    → ((missing : Bool) → not_allowed ≡ false → IsGapAt row missing → ⊥) → Adds piece (IsGapHere not_allowed row) path tally tally
+    → ((missing : Bool) → not_allowed ≡ false → IsGapAt row missing → ⊥) → WritesGapsWhere piece (IsGapHere not_allowed row) path tally tally
 looked_none piece not_allowed row path tally n = record { found = []; lists = none_here not_allowed row n; told = grows_none tally }
 
 -- the one gap of a place, and what is told of it
 pub only_here : (not_allowed missing : Bool) (row : Option Row) → not_allowed ≡ false → IsGapAt row missing → Lists place_of (IsGapHere not_allowed row) (record { path = []; missing = missing } ∷ [])
 only_here not_allowed missing row n g = subst (λ b. Lists place_of (IsGapHere b row) (record { path = []; missing = missing } ∷ [])) (sym n) (one_here row missing g)
 
-pub told_here : {X : Type 0} (piece : Gap → List X) (missing : Bool) (path : Path) → piece (record { path = path; missing = missing }) ≡ told_above piece path (record { path = []; missing = missing } ∷ [])
+pub told_here : {X : Type 0} (piece : Gap → List X) (missing : Bool) (path : Path) → piece (record { path = path; missing = missing }) ≡ gaps_above piece path (record { path = []; missing = missing } ∷ [])
 told_here piece missing path =
     let one : Path → Gap = λ place. record { path = place; missing = missing } in
     ap (λ (q : Path). piece (one q)) (sym (append-nil path)) ∙ sym (append-nil (piece (one (path ++ []))))
 
 pub looked_one :
     {X : Type 0} (piece : Gap → List X) (not_allowed missing : Bool) (row : Option Row) (path : Path) (start after : Tally X) → not_allowed ≡ false → IsGapAt row missing
-    → Grows start after (piece (record { path = path; missing = missing })) → Adds piece (IsGapHere not_allowed row) path start after
+    → WritesPieces start after (piece (record { path = path; missing = missing })) → WritesGapsWhere piece (IsGapHere not_allowed row) path start after
 looked_one piece not_allowed missing row path start after n g a = record {
   found = record { path = []; missing = missing } ∷ [];
   lists = only_here not_allowed missing row n g;
-  told = subst (Grows start after) (told_here piece missing path) a;
+  told = subst (WritesPieces start after) (told_here piece missing path) a;
 }
 
 -- a gap of the root's tree is one of the table
-pub root_gap : (tree : Tree Row) (gap : Gap) → IsGapIn false tree gap → IsGap (Told tree) gap
+pub root_gap : (tree : Tree Row) (gap : Gap) → IsGapIn false tree gap → IsReportGap (Told tree) gap
 root_gap tree gap k = record {
   demanded = k.demanded;
   has_value = k.lacking.has_value;
@@ -278,7 +278,7 @@ root_gap tree gap k = record {
   cause = k.lacking.cause;
 }
 
-pub gap_of_root : (tree : Tree Row) (gap : Gap) → IsGap (Told tree) gap → IsGapIn false tree gap
+pub gap_of_root : (tree : Tree Row) (gap : Gap) → IsReportGap (Told tree) gap → IsGapIn false tree gap
 gap_of_root tree gap k = record {
   demanded = k.demanded;
   allowed = λ b. k.allowed ((at_root (Told tree) gap.path).0 b);
@@ -288,33 +288,33 @@ gap_of_root tree gap k = record {
 -- the gaps found from the root on are those of the table
 pub gaps_found : (tree : Tree Row) (xs : List Gap) → Lists place_of (IsGapIn false tree) xs → AreGaps (Told tree) xs
 gaps_found tree xs h = record {
-  sound = all_from (IsGapIn false tree) (IsGap (Told tree)) xs (root_gap tree) h.sound;
+  sound = all_from (IsGapIn false tree) (IsReportGap (Told tree)) xs (root_gap tree) h.sound;
   complete = λ x k. h.complete x (gap_of_root tree x k);
   rising = h.rising;
 }
 
 -- the place of the root is the whole path
-above_root : (xs : List Gap) → map (above []) xs ≡ xs
+above_root : (xs : List Gap) → map (gap_above []) xs ≡ xs
 above_root [] = refl
 above_root (x ∷ xs) = ap (λ ys. x ∷ ys) (above_root xs)
 
-pub root_told : {X : Type 0} (piece : Gap → List X) (path : Path) (found : List Gap) → path ≡ [] → told_above piece path found ≡ flat_map piece found
-root_told piece path found p = ap (λ q. told_above piece q found) p ∙ ap (flat_map piece) (above_root found)
+pub root_told : {X : Type 0} (piece : Gap → List X) (path : Path) (found : List Gap) → path ≡ [] → gaps_above piece path found ≡ flat_map piece found
+root_told piece path found p = ap (λ q. gaps_above piece q found) p ∙ ap (flat_map piece) (above_root found)
 
 -- what a search from the root told is told of the gaps of the table
 pub told_from_root :
     {X : Type 0} (piece : Gap → List X) (tree root : Tree Row) (old new : Tally X) (path : Path) → root ≡ tree → path ≡ []
-    → Adds piece (IsGapIn false root) path old new → (found : List Gap) × AreGaps (Told tree) found × Grows old new (flat_map piece found)
+    → WritesGapsWhere piece (IsGapIn false root) path old new → (found : List Gap) × AreGaps (Told tree) found × WritesPieces old new (flat_map piece found)
 told_from_root piece tree root old new path r p h = (
   h.found,
   gaps_found tree h.found (subst (λ t. Lists place_of (IsGapIn false t) h.found) r h.lists),
-  subst (Grows old new) (root_told piece path h.found p) h.told,
+  subst (WritesPieces old new) (root_told piece path h.found p) h.told,
 )
 
 -- a search that began with nothing has listed these
 pub from_nothing :
     (tree root : Tree Row) (before after : List Gap) (n m : ℕ) (path : Path) → root ≡ tree → before ≡ [] → path ≡ []
-    → Adds (λ x. x ∷ []) (IsGapIn false root) path (record { count = n; known = Some before }) (record { count = m; known = Some after }) → AreGaps (Told tree) after
+    → WritesGapsWhere (λ x. x ∷ []) (IsGapIn false root) path (record { count = n; known = Some before }) (record { count = m; known = Some after }) → AreGaps (Told tree) after
 from_nothing tree root before after n m path r b p h =
     let told = told_from_root (λ x. x ∷ []) tree root _ _ path r p h in
     let found : after ≡ told.0 = told.2.known ∙ ap (λ xs. xs ++ flat_map (λ x. x ∷ []) told.0) b ∙ listed told.0 in

@@ -8,15 +8,15 @@ use Rattle.std.specs.declared.cmp.Ordering.TheVariants.{Less}
 use Rattle.cue_lattice.specs.Path as paths
 use Rattle.cue_lattice.specs.Path.{label, index, step_cmp, Path, path_cmp}
 use Rattle.cue_row.specs.declared.parts.RowParts.{RowParts as Row}
-use Rattle.cue_table.specs.Spans.{Span, field, elements, alike, spanned}
-use Rattle.cue_table.specs.Tree.{Tree, Children, none, child, row_of, rest_of, find}
+use Rattle.cue_table.specs.Spans.{Span, field, elements, alike_elements, branches_of_span}
+use Rattle.cue_table.specs.Tree.{Tree, Children, none, child, row_of, rest_below, find}
 use Rattle.cue_report.specs.Answers.{IsStepDemanded}
-use Rattle.cue_report.specs.Gaps.{IsGap, AreGaps}
-use Rattle.cue_report.specs.Inner.GapSearch.{IsGapAt, IsGapIn, IsGapHere, IsGapBelow, IsGapOnward, IsFront, Fronts, free_before}
+use Rattle.cue_report.specs.Gaps.{IsReportGap, AreGaps}
+use Rattle.cue_report.specs.Inner.GapSearch.{IsGapAt, IsGapIn, IsGapHere, IsGapBelow, IsGapOnward, IsFront, WritesGapsPrefixWhere, free_before}
 use Rattle.cue_report.specs.Listing.{Lists}
 use Rattle.cue_report.specs.Inner.Search.{is_demanded, least_at, rest_from}
 use Rattle.cue_report.specs.Telling.{Tally}
-use Rattle.cue_report.specs.Inner.Telling.{Starts}
+use Rattle.cue_report.specs.Inner.Telling.{WritesPiecesPrefix}
 use Rattle.cue_report.specs.declared.gap.Gap.{Gap}
 use Rattle.cue_report.proofs.Descent.{Told}
 use Rattle.cue_report.proofs.FoundGaps.{place_of, UpTo, IsIn, path_cases, step_demanded, here_up, here_down, only_here, told_here, root_told, root_gap, gap_of_root}
@@ -46,11 +46,11 @@ same_front P Q xs f g h = record { sound = all_from P Q xs f h.sound; rising = h
 
 pub same_fronts :
     {X : Type 0} (piece : Gap → List X) (P Q : Gap → Type 0) (path : Path) (start after : Tally X) → ((gap : Gap) → P gap → Q gap) → ((gap : Gap) → Q gap → P gap)
-    → Fronts piece P path start after → Fronts piece Q path start after
+    → WritesGapsPrefixWhere piece P path start after → WritesGapsPrefixWhere piece Q path start after
 same_fronts piece P Q path start after f g h = record { found = h.found; front = same_front P Q h.found f g h.front; told = h.told }
 
 -- nothing was told
-pub fronts_none : {X : Type 0} (piece : Gap → List X) (P : Gap → Type 0) (path : Path) (u v : Tally X) → v.known ≡ u.known → Fronts piece P path u v
+pub fronts_none : {X : Type 0} (piece : Gap → List X) (P : Gap → Type 0) (path : Path) (u v : Tally X) → v.known ≡ u.known → WritesGapsPrefixWhere piece P path u v
 fronts_none piece P path u v e = record { found = []; front = front_none P; told = starts_none u v [] e }
 
 -- of all, the front is the beginning
@@ -60,26 +60,26 @@ front_splits P xs all h k =
 
 -- from the root on
 pub front_of_root :
-    {X : Type 0} (piece : Gap → List X) (tree root : Tree Row) (old new : Tally X) (path : Path) → root ≡ tree → path ≡ [] → Fronts piece (IsGapIn false root) path old new
-    → (all : List Gap) → AreGaps (Told tree) all → Starts old new (flat_map piece all)
+    {X : Type 0} (piece : Gap → List X) (tree root : Tree Row) (old new : Tally X) (path : Path) → root ≡ tree → path ≡ [] → WritesGapsPrefixWhere piece (IsGapIn false root) path old new
+    → (all : List Gap) → AreGaps (Told tree) all → WritesPiecesPrefix old new (flat_map piece all)
 front_of_root piece tree root old new path r p h all k =
-    let front : IsFront (IsGap (Told tree)) h.found = same_front (IsGapIn false tree) (IsGap (Told tree)) h.found (root_gap tree) (gap_of_root tree) (subst (λ t. IsFront (IsGapIn false t) h.found) r h.front) in
-    let split = front_splits (IsGap (Told tree)) h.found all front k in
-    subst (Starts old new) (root_told piece path (h.found ++ split.0) p ∙ ap (flat_map piece) (sym split.1)) (found_now piece path old new h.found split.0 h.told)
+    let front : IsFront (IsReportGap (Told tree)) h.found = same_front (IsGapIn false tree) (IsReportGap (Told tree)) h.found (root_gap tree) (gap_of_root tree) (subst (λ t. IsFront (IsGapIn false t) h.found) r h.front) in
+    let split = front_splits (IsReportGap (Told tree)) h.found all front k in
+    subst (WritesPiecesPrefix old new) (root_told piece path (h.found ++ split.0) p ∙ ap (flat_map piece) (sym split.1)) (found_now piece path old new h.found split.0 h.told)
 
 -- ---- at the place itself
 pub looked_begun :
     {X : Type 0} (piece : Gap → List X) (not_allowed missing : Bool) (row : Option Row) (path : Path) (start after : Tally X) → not_allowed ≡ false → IsGapAt row missing
-    → Starts start after (piece (record { path = path; missing = missing })) → Fronts piece (IsGapHere not_allowed row) path start after
+    → WritesPiecesPrefix start after (piece (record { path = path; missing = missing })) → WritesGapsPrefixWhere piece (IsGapHere not_allowed row) path start after
 looked_begun piece not_allowed missing row path start after n g a = record {
   found = record { path = []; missing = missing } ∷ [];
   front = front_all (IsGapHere not_allowed row) (record { path = []; missing = missing } ∷ []) (only_here not_allowed missing row n g);
-  told = subst (Starts start after) (told_here piece missing path) a;
+  told = subst (WritesPiecesPrefix start after) (told_here piece missing path) a;
 }
 
 pub here_begun :
-    {X : Type 0} (piece : Gap → List X) (not_allowed : Bool) (tree : Tree Row) (path : Path) (start after : Tally X) → Fronts piece (IsGapHere not_allowed (row_of tree)) path start after
-    → Fronts piece (IsGapIn not_allowed tree) path start after
+    {X : Type 0} (piece : Gap → List X) (not_allowed : Bool) (tree : Tree Row) (path : Path) (start after : Tally X) → WritesGapsPrefixWhere piece (IsGapHere not_allowed (row_of tree)) path start after
+    → WritesGapsPrefixWhere piece (IsGapIn not_allowed tree) path start after
 here_begun piece not_allowed tree path start after h = record {
   found = h.found;
   front = record {
@@ -160,14 +160,14 @@ module _ (not_allowed : Bool) (tree : Tree Row) (rest : Children Row) (next : �
 -- a branch is of the span, or behind it
 abbrev IsCovered : Bool → (tree inner : Tree Row) → Span → Children Row → ℕ → (paths.Step → Type 0) → paths.Step → Type 0
 IsCovered not_allowed tree inner span left next P s =
-    IsDone (spanned span inner left) next s
-    ⊎ (((t : Tree Row) × (find s (spanned span inner none) ≡ Some t)) ⊎ (((d : paths.Step) → IsDone (spanned span inner left) next d → step_cmp d s ≡ Less) × ((p : paths.Step) → P p → step_cmp p s ≡ Less)))
+    IsDone (branches_of_span span inner left) next s
+    ⊎ (((t : Tree Row) × (find s (branches_of_span span inner none) ≡ Some t)) ⊎ (((d : paths.Step) → IsDone (branches_of_span span inner left) next d → step_cmp d s ≡ Less) × ((p : paths.Step) → P p → step_cmp p s ≡ Less)))
 
 module _
-    (not_allowed : Bool) (tree inner : Tree Row) (span : Span) (left : Children Row) (next : ℕ) (found : List Gap) (w : IsOver not_allowed tree (spanned span inner left) next found)
-    (P : paths.Step → Type 0) (is : (s : paths.Step) (t : Tree Row) → is_demanded (row_of tree) s (row_of t) ≡ true → find s (spanned span inner none) ≡ Some t → P s) where
+    (not_allowed : Bool) (tree inner : Tree Row) (span : Span) (left : Children Row) (next : ℕ) (found : List Gap) (w : IsOver not_allowed tree (branches_of_span span inner left) next found)
+    (P : paths.Step → Type 0) (is : (s : paths.Step) (t : Tree Row) → is_demanded (row_of tree) s (row_of t) ≡ true → find s (branches_of_span span inner none) ≡ Some t → P s) where
   -- a gap of the span begins with such a step
-  span_before : (s : paths.Step) (path q : Path) → path ≡ s ∷ q → ((p : paths.Step) → P p → step_cmp p s ≡ Less) → (y : Gap) → IsGapBelow (row_of tree) (spanned span inner none) y → path_cmp (place_of y) path ≡ Less
+  span_before : (s : paths.Step) (path q : Path) → path ≡ s ∷ q → ((p : paths.Step) → P p → step_cmp p s ≡ Less) → (y : Gap) → IsGapBelow (row_of tree) (branches_of_span span inner none) y → path_cmp (place_of y) path ≡ Less
   span_before s path q e low y h =
       subst (λ r. path_cmp y.path r ≡ Less) (sym e) (subst (λ r. path_cmp r (s ∷ q) ≡ Less) (sym h.is) (ap (λ o. ordering_then o (path_cmp h.path q)) (low h.step (is h.step h.tree h.demanded h.found))))
 
@@ -175,24 +175,24 @@ module _
   front_span :
       (ys : List Gap)
       → ((s : paths.Step) → IsStepDemanded (Told tree) [] s → IsCovered not_allowed tree inner span left next P s)
-      → IsFront (IsGapBelow (row_of tree) (spanned span inner none)) ys → IsFront (IsGapIn not_allowed tree) (found ++ ys)
+      → IsFront (IsGapBelow (row_of tree) (branches_of_span span inner none)) ys → IsFront (IsGapIn not_allowed tree) (found ++ ys)
   front_span ys cover k =
-      front_by not_allowed tree (IsDone (spanned span inner left) next) (IsGapBelow (row_of tree) (spanned span inner none)) found ys w.lists k
+      front_by not_allowed tree (IsDone (branches_of_span span inner left) next) (IsGapBelow (row_of tree) (branches_of_span span inner none)) found ys w.lists k
       (span_up not_allowed tree inner span left next found w)
       (λ gap s path e h. ⊎_elim (λ d. inl d)
       (λ o. ⊎_elim (λ (t, f). inr (inl (span_down not_allowed tree inner span left next found w gap s path e h t f)))
-      (λ (low, behind). inr (inr (steps_before (IsDone (spanned span inner left) next) s gap.path path e low, span_before s gap.path path e behind))) o)
+      (λ (low, behind). inr (inr (steps_before (IsDone (branches_of_span span inner left) next) s gap.path path e low, span_before s gap.path path e behind))) o)
       (cover s (step_demanded not_allowed tree gap s path e h)))
       (span_order not_allowed tree inner span left next found w)
 
 label_cover :
-    (not_allowed : Bool) (tree inner : Tree Row) (span : Span) (left : Children Row) (next : ℕ) (found : List Gap) (P : paths.Step → Type 0) → IsOver not_allowed tree (spanned span inner left) next found
+    (not_allowed : Bool) (tree inner : Tree Row) (span : Span) (left : Children Row) (next : ℕ) (found : List Gap) (P : paths.Step → Type 0) → IsOver not_allowed tree (branches_of_span span inner left) next found
     → ((s : paths.Step) (t : Tree Row) → find s left ≡ Some t → (p : paths.Step) → P p → step_cmp p s ≡ Less) → (text : List ℕ) → IsStepDemanded (Told tree) [] (label text)
     → IsCovered not_allowed tree inner span left next P (label text)
 label_cover not_allowed tree inner span left next found P w behind text d =
     let at = demanded_label tree text d in
     ⊎_elim (λ h. inl h)
-    (λ f. inr (⊎_elim (λ g. inl (at.0, g)) (λ g. inr (λ s h. done_before not_allowed tree (spanned span inner left) next found w s (label text) at.0 h f, behind (label text) at.0 g)) (span_either (label text) span inner at.0 left f)))
+    (λ f. inr (⊎_elim (λ g. inl (at.0, g)) (λ g. inr (λ s h. done_before not_allowed tree (branches_of_span span inner left) next found w s (label text) at.0 h f, behind (label text) at.0 g)) (span_either (label text) span inner at.0 left f)))
     (w.left (label text) at.0 d at.1)
 
 -- the elements of a run that each list has
@@ -202,7 +202,7 @@ IsElement first more least p = (m : ℕ) × (p ≡ index m) × (m ≤ first + mo
 -- the front of a span, whatever it has
 front_at :
     (not_allowed : Bool) (tree inner : Tree Row) (span : Span) (left : Children Row) (next : ℕ) (found ys : List Gap)
-    → IsOver not_allowed tree (spanned span inner left) (reach_of next (least_at (row_of tree)) span) found → IsFront (IsGapBelow (row_of tree) (spanned span inner none)) ys
+    → IsOver not_allowed tree (branches_of_span span inner left) (reach_of next (least_at (row_of tree)) span) found → IsFront (IsGapBelow (row_of tree) (branches_of_span span inner none)) ys
     → IsFront (IsGapIn not_allowed tree) (found ++ ys)
 front_at not_allowed tree inner (field text) left next found ys w k =
     front_span not_allowed tree inner (field text) left next found w (λ p. p ≡ label text) (λ s t d f. (only_branch s (label text) inner t f).0) ys cover k
@@ -220,7 +220,7 @@ front_at not_allowed tree inner (elements first more) left next found ys w k = e
   | inl low ↦ asked low
   | inr high ↦ unasked high
 ] where
-  one : (s : paths.Step) (t : Tree Row) → is_demanded (row_of tree) s (row_of t) ≡ true → find s (alike first more inner none) ≡ Some t → IsElement first more (least_at (row_of tree)) s
+  one : (s : paths.Step) (t : Tree Row) → is_demanded (row_of tree) s (row_of t) ≡ true → find s (alike_elements first more inner none) ≡ Some t → IsElement first more (least_at (row_of tree)) s
   one s t d f =
       let at = alike_is s first more inner t f in
       (at.number, at.is, at.most, at.least, is_below (row_of tree) at.number (subst (λ u. is_demanded (row_of tree) u (row_of t) ≡ true) at.is d))
@@ -230,42 +230,42 @@ front_at not_allowed tree inner (elements first more) left next found ys w k = e
 
   asked : first < least_at (row_of tree) → IsFront (IsGapIn not_allowed tree) (found ++ ys)
   asked low = front_span not_allowed tree inner (elements first more) left first found here (IsElement first more (least_at (row_of tree))) one ys cover k where
-    here : IsOver not_allowed tree (alike first more inner left) first found
-    here = subst (λ b. IsOver not_allowed tree (alike first more inner left) (if b then first else next) found) (nat_lt_is first (least_at (row_of tree)) low) w
+    here : IsOver not_allowed tree (alike_elements first more inner left) first found
+    here = subst (λ b. IsOver not_allowed tree (alike_elements first more inner left) (if b then first else next) found) (nat_lt_is first (least_at (row_of tree)) low) w
 
     cover : (s : paths.Step) → IsStepDemanded (Told tree) [] s → IsCovered not_allowed tree inner (elements first more) left first (IsElement first more (least_at (row_of tree))) s
     cover (label name) d = label_cover not_allowed tree inner (elements first more) left first found (IsElement first more (least_at (row_of tree))) here behind name d
     cover (index n) d = elim (cases_lt n first) [
       | inl l ↦ inl l
       | inr l ↦ elim (cases_lt (first + more) n) [
-        | inl m ↦ inr (inr (elements_before not_allowed tree (alike first more inner left) first found here n l, λ p (i, e, most, o, a). subst (λ q. step_cmp q (index n) ≡ Less) (sym e) (less_index i n (omega (arith, m, most)))))
+        | inl m ↦ inr (inr (elements_before not_allowed tree (alike_elements first more inner left) first found here n l, λ p (i, e, most, o, a). subst (λ q. step_cmp q (index n) ≡ Less) (sym e) (less_index i n (omega (arith, m, most)))))
         | inr m ↦ inr (inl (inner, alike_at first more n inner none l m))
       ]
     ]
 
   unasked : least_at (row_of tree) ≤ first → IsFront (IsGapIn not_allowed tree) (found ++ ys)
   unasked high = front_span not_allowed tree inner (elements first more) left next found here (IsElement first more (least_at (row_of tree))) one ys cover k where
-    here : IsOver not_allowed tree (alike first more inner left) next found
-    here = subst (λ b. IsOver not_allowed tree (alike first more inner left) (if b then first else next) found) (nat_lt_not first (least_at (row_of tree)) high) w
+    here : IsOver not_allowed tree (alike_elements first more inner left) next found
+    here = subst (λ b. IsOver not_allowed tree (alike_elements first more inner left) (if b then first else next) found) (nat_lt_not first (least_at (row_of tree)) high) w
 
     cover : (s : paths.Step) → IsStepDemanded (Told tree) [] s → IsCovered not_allowed tree inner (elements first more) left next (IsElement first more (least_at (row_of tree))) s
     cover (label name) d = label_cover not_allowed tree inner (elements first more) left next found (IsElement first more (least_at (row_of tree))) here behind name d
     cover (index n) d = elim (cases_lt n next) [
       | inl l ↦ inl l
-      | inr l ↦ inr (inr (elements_before not_allowed tree (alike first more inner left) next found here n l, λ p (i, e, most, o, a). absurd (let no : ⊥ = omega (arith, high, o, a) in no)))
+      | inr l ↦ inr (inr (elements_before not_allowed tree (alike_elements first more inner left) next found here n l, λ p (i, e, most, o, a). absurd (let no : ⊥ = omega (arith, high, o, a) in no)))
     ]
 
 pub front_walked :
-    (not_allowed : Bool) (tree inner : Tree Row) (span : Span) (left : Children Row) (next : ℕ) (found ys : List Gap) → IsOver not_allowed tree (spanned span inner left) next found
-    → IsFront (IsGapBelow (row_of tree) (spanned span inner none)) ys → IsFront (IsGapIn not_allowed tree) ((found ++ free_before next (least_at (row_of tree)) span) ++ ys)
+    (not_allowed : Bool) (tree inner : Tree Row) (span : Span) (left : Children Row) (next : ℕ) (found ys : List Gap) → IsOver not_allowed tree (branches_of_span span inner left) next found
+    → IsFront (IsGapBelow (row_of tree) (branches_of_span span inner none)) ys → IsFront (IsGapIn not_allowed tree) ((found ++ free_before next (least_at (row_of tree)) span) ++ ys)
 front_walked not_allowed tree inner span left next found ys w k =
     front_at not_allowed tree inner span left next (found ++ free_before next (least_at (row_of tree)) span) ys (span_reached not_allowed tree inner span left next found w) k
 
 -- behind all branches the front of the rest
 pub front_ended :
-    (not_allowed : Bool) (tree : Tree Row) (found ys : List Gap) → IsOver not_allowed tree none (rest_from (rest_of tree) (least_at (row_of tree))) found
-    → IsFront (IsGapOnward (least_at (row_of tree)) (rest_of tree)) ys → IsFront (IsGapIn not_allowed tree) (found ++ ys)
+    (not_allowed : Bool) (tree : Tree Row) (found ys : List Gap) → IsOver not_allowed tree none (rest_from (rest_below tree) (least_at (row_of tree))) found
+    → IsFront (IsGapOnward (least_at (row_of tree)) (rest_below tree)) ys → IsFront (IsGapIn not_allowed tree) (found ++ ys)
 front_ended not_allowed tree found ys w k =
-    front_by not_allowed tree (IsDone none (rest_from (rest_of tree) (least_at (row_of tree)))) (IsGapOnward (least_at (row_of tree)) (rest_of tree)) found ys w.lists k
-    (λ gap h. onward_up not_allowed tree (rest_of tree) gap refl h)
-    (λ gap s path e h. ⊎_elim (λ d. inl d) (λ p. inr (inl p)) (onward_cover not_allowed tree gap s path e h)) (onward_behind (rest_of tree) (least_at (row_of tree)))
+    front_by not_allowed tree (IsDone none (rest_from (rest_below tree) (least_at (row_of tree)))) (IsGapOnward (least_at (row_of tree)) (rest_below tree)) found ys w.lists k
+    (λ gap h. onward_up not_allowed tree (rest_below tree) gap refl h)
+    (λ gap s path e h. ⊎_elim (λ d. inl d) (λ p. inr (inl p)) (onward_cover not_allowed tree gap s path e h)) (onward_behind (rest_below tree) (least_at (row_of tree)))

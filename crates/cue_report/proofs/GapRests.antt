@@ -9,12 +9,12 @@ use Rattle.cue_lattice.specs.OneOf.{OneOf}
 use Rattle.cue_lattice.specs.Path as paths
 use Rattle.cue_lattice.specs.Path.{label, index, step_cmp, Path, path_cmp}
 use Rattle.cue_row.specs.declared.parts.RowParts.{RowParts as Row}
-use Rattle.cue_table.specs.Spans.{Span, spread}
-use Rattle.cue_table.specs.Tree.{Tree, node, none, Rest, no_rest, onward, row_of, rest_of, rest_tree}
-use Rattle.cue_report.specs.Inner.GapSearch.{IsGapIn, IsGapAmong, IsGapOnward, Adds, above, free_elements}
+use Rattle.cue_table.specs.Spans.{Span, branches_of_spans}
+use Rattle.cue_table.specs.Tree.{Tree, node, none, Rest, no_rest, onward, row_of, rest_below, rest_at}
+use Rattle.cue_report.specs.Inner.GapSearch.{IsGapIn, IsGapAmong, IsGapOnward, WritesGapsWhere, gap_above, free_elements}
 use Rattle.cue_report.specs.Listing.{Lists}
 use Rattle.cue_report.specs.Inner.Search.{least_at, rest_from}
-use Rattle.cue_report.specs.Telling.{Tally, Grows}
+use Rattle.cue_report.specs.Telling.{Tally, WritesPieces}
 use Rattle.cue_report.specs.declared.gap.Gap.{Gap}
 use Rattle.cue_report.proofs.Descent.{seen}
 use Rattle.cue_report.proofs.Elements.{less_index}
@@ -35,38 +35,38 @@ module _ (first number : ℕ) (tree : Tree Row) (low : first ≤ number) where
   pub among_more : (gap : Gap) → IsGapAmong first number tree gap → IsGapAmong first (number + 1) tree gap
   among_more gap h = record { number = h.number; within = (h.within.0, omega (arith, h.within.1)); path = h.path; is = h.is; inner = h.inner }
 
-  pub among_last : (gap : Gap) → IsGapIn false tree gap → IsGapAmong first (number + 1) tree (above (index number ∷ []) gap)
+  pub among_last : (gap : Gap) → IsGapIn false tree gap → IsGapAmong first (number + 1) tree (gap_above (index number ∷ []) gap)
   among_last gap h = record { number = number; within = (low, omega arith); path = gap.path; is = refl; inner = h }
 
 module _ (first number : ℕ) (tree : Tree Row) (low : first ≤ number) (xs ys : List Gap) (so_far : Lists place_of (IsGapAmong first number tree) xs) (found : Lists place_of (IsGapIn false tree) ys) where
-  in_last : (x : Gap) (path : Path) → x.path ≡ index number ∷ path → IsGapIn false tree (record x { path = path }) → OneOf (λ y. y ≡ x) (map (above (index number ∷ [])) ys)
+  in_last : (x : Gap) (path : Path) → x.path ≡ index number ∷ path → IsGapIn false tree (record x { path = path }) → OneOf (λ y. y ≡ x) (map (gap_above (index number ∷ [])) ys)
   in_last x path e h =
       let inner : Gap = record x { path = path } in
-      subst (λ p. OneOf (λ y. y ≡ record x { path = p }) (map (above (index number ∷ [])) ys)) (sym e)
-      (one_map (λ y. y ≡ inner) (λ y. y ≡ above (index number ∷ []) inner) (above (index number ∷ [])) ys (λ y f. ap (above (index number ∷ [])) f) (found.complete inner h))
+      subst (λ p. OneOf (λ y. y ≡ record x { path = p }) (map (gap_above (index number ∷ [])) ys)) (sym e)
+      (one_map (λ y. y ≡ inner) (λ y. y ≡ gap_above (index number ∷ []) inner) (gap_above (index number ∷ [])) ys (λ y f. ap (gap_above (index number ∷ [])) f) (found.complete inner h))
 
-  all_before : (x : Gap) (zs : List Gap) → IsGapAmong first number tree x → AllByRecursion (λ y. path_cmp (place_of x) (place_of y) ≡ Less) (map (above (index number ∷ [])) zs)
+  all_before : (x : Gap) (zs : List Gap) → IsGapAmong first number tree x → AllByRecursion (λ y. path_cmp (place_of x) (place_of y) ≡ Less) (map (gap_above (index number ∷ [])) zs)
   all_before x [] h = tt
   all_before x (z ∷ zs) h = (element_before number x.path z.path h.path h.number h.is h.within.1, all_before x zs h)
 
-  pub one_more : Lists place_of (IsGapAmong first (number + 1) tree) (xs ++ map (above (index number ∷ [])) ys)
+  pub one_more : Lists place_of (IsGapAmong first (number + 1) tree) (xs ++ map (gap_above (index number ∷ [])) ys)
   one_more = record {
-    sound = all_append (IsGapAmong first (number + 1) tree) xs (map (above (index number ∷ [])) ys)
+    sound = all_append (IsGapAmong first (number + 1) tree) xs (map (gap_above (index number ∷ [])) ys)
         (all_from (IsGapAmong first number tree) (IsGapAmong first (number + 1) tree) xs (among_more first number tree low) so_far.sound)
-        (all_map (IsGapIn false tree) (IsGapAmong first (number + 1) tree) (above (index number ∷ [])) ys (among_last first number tree low) found.sound);
+        (all_map (IsGapIn false tree) (IsGapAmong first (number + 1) tree) (gap_above (index number ∷ [])) ys (among_last first number tree low) found.sound);
     complete = λ x h. ⊎_elim
-        (λ e. one_right (λ y. y ≡ x) xs (map (above (index number ∷ [])) ys) (in_last x h.path (h.is ∙ ap (λ k. index k ∷ h.path) e) h.inner))
-        (λ l. one_left (λ y. y ≡ x) xs (map (above (index number ∷ [])) ys)
+        (λ e. one_right (λ y. y ≡ x) xs (map (gap_above (index number ∷ [])) ys) (in_last x h.path (h.is ∙ ap (λ k. index k ∷ h.path) e) h.inner))
+        (λ l. one_left (λ y. y ≡ x) xs (map (gap_above (index number ∷ [])) ys)
         (so_far.complete x (record { number = h.number; within = (h.within.0, l); path = h.path; is = h.is; inner = h.inner })))
         (eq-or-lt_of_le {n = h.number} {m = number} (omega (arith, h.within.1)));
-    rising = rising_append place_of xs (map (above (index number ∷ [])) ys) so_far.rising
-        (rising_lifted place_of (above (index number ∷ [])) (index number) (λ x. refl) ys found.rising)
-        (all_from (IsGapAmong first number tree) (λ x. AllByRecursion (λ y. path_cmp (place_of x) (place_of y) ≡ Less) (map (above (index number ∷ [])) ys)) xs
+    rising = rising_append place_of xs (map (gap_above (index number ∷ [])) ys) so_far.rising
+        (rising_lifted place_of (gap_above (index number ∷ [])) (index number) (λ x. refl) ys found.rising)
+        (all_from (IsGapAmong first number tree) (λ x. AllByRecursion (λ y. path_cmp (place_of x) (place_of y) ≡ Less) (map (gap_above (index number ∷ [])) ys)) xs
         (λ x h. all_before x ys h) so_far.sound);
   }
 
 -- no element was looked at yet
-pub none_among : {X : Type 0} (piece : Gap → List X) (first : ℕ) (tree : Tree Row) (path : Path) (start : Tally X) → Adds piece (IsGapAmong first first tree) path start start
+pub none_among : {X : Type 0} (piece : Gap → List X) (first : ℕ) (tree : Tree Row) (path : Path) (start : Tally X) → WritesGapsWhere piece (IsGapAmong first first tree) path start start
 none_among piece first tree path start = record {
   found = [];
   lists = record { sound = tt; complete = λ x h. absurd (let least = h.within.0 in let most = h.within.1 in let no : ⊥ = omega arith in no); rising = tt };
@@ -76,20 +76,20 @@ none_among piece first tree path start = record {
 -- one more was looked at
 pub element_added :
     {X : Type 0} (piece : Gap → List X) (first number : ℕ) (tree : Tree Row) (path pushed : Path) (start now after : Tally X) → first ≤ number
-    → Adds piece (IsGapAmong first number tree) path start now → pushed ≡ path ++ index number ∷ [] → Adds piece (IsGapIn false tree) pushed now after
-    → Adds piece (IsGapAmong first (number + 1) tree) path start after
+    → WritesGapsWhere piece (IsGapAmong first number tree) path start now → pushed ≡ path ++ index number ∷ [] → WritesGapsWhere piece (IsGapIn false tree) pushed now after
+    → WritesGapsWhere piece (IsGapAmong first (number + 1) tree) path start after
 element_added piece first number tree path pushed start now after l h p adds =
-    let last : List Gap = map (above (index number ∷ [])) adds.found in
+    let last : List Gap = map (gap_above (index number ∷ [])) adds.found in
     record {
       found = h.found ++ last;
       lists = one_more first number tree l h.found adds.found h.lists adds.lists;
-      told = found_more piece path start now after h.found last h.told (subst (Grows now after) (pushed_is piece path pushed (index number) adds.found p) adds.told);
+      told = found_more piece path start now after h.found last h.told (subst (WritesPieces now after) (pushed_is piece path pushed (index number) adds.found p) adds.told);
     }
 
 -- the same, told otherwise
 pub same_added :
     {X : Type 0} (piece : Gap → List X) (P Q : Gap → Type 0) (path : Path) (start after : Tally X) → ((gap : Gap) → P gap → Q gap) → ((gap : Gap) → Q gap → P gap)
-    → Adds piece P path start after → Adds piece Q path start after
+    → WritesGapsWhere piece P path start after → WritesGapsWhere piece Q path start after
 same_added piece P Q path start after f g h = record {
   found = h.found;
   lists = record { sound = all_from P Q h.found f h.lists.sound; complete = λ x q. h.lists.complete x (g x q); rising = h.lists.rising };
@@ -99,7 +99,7 @@ same_added piece P Q path start after f g h = record {
 -- elements that are as many
 pub same_elements :
     {X : Type 0} (piece : Gap → List X) (first number end : ℕ) (tree : Tree Row) (path : Path) (start after : Tally X) → number - first ≡ end - first
-    → Adds piece (IsGapAmong first number tree) path start after → Adds piece (IsGapAmong first end tree) path start after
+    → WritesGapsWhere piece (IsGapAmong first number tree) path start after → WritesGapsWhere piece (IsGapAmong first end tree) path start after
 same_elements piece first number end tree path start after e h =
     same_added piece (IsGapAmong first number tree) (IsGapAmong first end tree) path start after
     (λ gap k. record { number = k.number; within = (k.within.0, omega (arith, k.within, e)); path = k.path; is = k.is; inner = k.inner })
@@ -108,8 +108,8 @@ same_elements piece first number end tree path start after e h =
 
 -- the elements that are the rest
 pub among_onward :
-    (tree rest : Tree Row) (first least : ℕ) → Some rest ≡ rest_tree (rest_of tree) → least ≡ least_at (row_of tree) → first ≡ rest_from (rest_of tree) least
-    → (gap : Gap) → IsGapAmong first least rest gap ↔ IsGapOnward (least_at (row_of tree)) (rest_of tree) gap
+    (tree rest : Tree Row) (first least : ℕ) → Some rest ≡ rest_at (rest_below tree) → least ≡ least_at (row_of tree) → first ≡ rest_from (rest_below tree) least
+    → (gap : Gap) → IsGapAmong first least rest gap ↔ IsGapOnward (least_at (row_of tree)) (rest_below tree) gap
 among_onward (node row children no_rest) rest first least r m f gap = cc
 among_onward (node row children (onward n inner)) rest first least r m f gap =
     let same : rest ≡ inner = cc in (
@@ -119,16 +119,16 @@ among_onward (node row children (onward n inner)) rest first least r m f gap =
 
 -- all were looked at
 pub all_among :
-    {X : Type 0} (piece : Gap → List X) (tree rest : Tree Row) (first least : ℕ) (path : Path) (start after : Tally X) → Some rest ≡ rest_tree (rest_of tree)
-    → least ≡ least_at (row_of tree) → first ≡ rest_from (rest_of tree) least
-    → Adds piece (IsGapAmong first least rest) path start after → Adds piece (IsGapOnward (least_at (row_of tree)) (rest_of tree)) path start after
+    {X : Type 0} (piece : Gap → List X) (tree rest : Tree Row) (first least : ℕ) (path : Path) (start after : Tally X) → Some rest ≡ rest_at (rest_below tree)
+    → least ≡ least_at (row_of tree) → first ≡ rest_from (rest_below tree) least
+    → WritesGapsWhere piece (IsGapAmong first least rest) path start after → WritesGapsWhere piece (IsGapOnward (least_at (row_of tree)) (rest_below tree)) path start after
 all_among piece tree rest first least path start after r m f h =
-    same_added piece (IsGapAmong first least rest) (IsGapOnward (least_at (row_of tree)) (rest_of tree)) path start after
+    same_added piece (IsGapAmong first least rest) (IsGapOnward (least_at (row_of tree)) (rest_below tree)) path start after
     (λ gap. (among_onward tree rest first least r m f gap).0) (λ gap. (among_onward tree rest first least r m f gap).1) h
 
 -- nothing is looked at where there is no rest
-pub nothing_onward : {X : Type 0} (piece : Gap → List X) (tree : Tree Row) (path : Path) (start : Tally X) → rest_of tree ≡ no_rest → Adds piece (IsGapOnward (least_at (row_of tree)) (rest_of tree)) path start start
-nothing_onward piece tree path start e = subst (λ rest. Adds piece (IsGapOnward (least_at (row_of tree)) rest) path start start) (sym e) (record {
+pub nothing_onward : {X : Type 0} (piece : Gap → List X) (tree : Tree Row) (path : Path) (start : Tally X) → rest_below tree ≡ no_rest → WritesGapsWhere piece (IsGapOnward (least_at (row_of tree)) (rest_below tree)) path start start
+nothing_onward piece tree path start e = subst (λ rest. WritesGapsWhere piece (IsGapOnward (least_at (row_of tree)) rest) path start start) (sym e) (record {
   found = [];
   lists = record { sound = tt; complete = λ x h. absurd h; rising = tt };
   told = grows_none start;
@@ -136,7 +136,7 @@ nothing_onward piece tree path start e = subst (λ rest. Adds piece (IsGapOnward
 
 -- ---- the end of a search at a place
 -- what is a gap of the rest is one of the place
-pub onward_up : (not_allowed : Bool) (tree : Tree Row) (rest : Rest Row) (gap : Gap) → rest_of tree ≡ rest → IsGapOnward (least_at (row_of tree)) rest gap → IsGapIn not_allowed tree gap
+pub onward_up : (not_allowed : Bool) (tree : Tree Row) (rest : Rest Row) (gap : Gap) → rest_below tree ≡ rest → IsGapOnward (least_at (row_of tree)) rest gap → IsGapIn not_allowed tree gap
 onward_up not_allowed tree no_rest gap e h = absurd h
 onward_up not_allowed tree (onward n inner) gap e h =
     subst (λ p. IsGapIn not_allowed tree (record gap { path = p })) (sym h.is)
@@ -146,7 +146,7 @@ onward_up not_allowed tree (onward n inner) gap e h =
 
 -- and a gap of the place, from where the rest begins on, is one of the rest
 onward_down :
-    (not_allowed : Bool) (tree : Tree Row) (rest : Rest Row) (gap : Gap) (n : ℕ) (path : Path) → rest_of tree ≡ rest → gap.path ≡ index n ∷ path
+    (not_allowed : Bool) (tree : Tree Row) (rest : Rest Row) (gap : Gap) (n : ℕ) (path : Path) → rest_below tree ≡ rest → gap.path ≡ index n ∷ path
     → rest_from rest (least_at (row_of tree)) ≤ n → n < least_at (row_of tree) → IsGapIn not_allowed tree gap → IsGapOnward (least_at (row_of tree)) rest gap
 onward_down not_allowed tree no_rest gap n path e is l m h = let high : least_at (row_of tree) ≤ n = l in omega arith
 onward_down not_allowed tree (onward from inner) gap n path e is l m h =
@@ -176,12 +176,12 @@ onward_behind (onward n inner) least p gap d h = subst (λ q. path_cmp p q ≡ L
 -- all branches and the free elements behind them were looked at
 pub freed_last :
     (not_allowed : Bool) (tree : Tree Row) (rest : List (Span × Tree Row)) (next least end : ℕ) (found : List Gap)
-    → IsOver not_allowed tree (spread rest) next found → rest ≡ [] → least ≡ least_at (row_of tree) → end ≡ rest_from (rest_of tree) least
-    → IsOver not_allowed tree none (rest_from (rest_of tree) (least_at (row_of tree))) (found ++ free_elements next (end - next))
+    → IsOver not_allowed tree (branches_of_spans rest) next found → rest ≡ [] → least ≡ least_at (row_of tree) → end ≡ rest_from (rest_below tree) least
+    → IsOver not_allowed tree none (rest_from (rest_below tree) (least_at (row_of tree))) (found ++ free_elements next (end - next))
 freed_last not_allowed tree rest next least end found w c m e =
-    let last : ℕ = rest_from (rest_of tree) (least_at (row_of tree)) in
-    let is : end ≡ last = e ∙ ap (rest_from (rest_of tree)) m in
-    let over : IsOver not_allowed tree none next found = subst (λ spans. IsOver not_allowed tree (spread spans) next found) c w in
+    let last : ℕ = rest_from (rest_below tree) (least_at (row_of tree)) in
+    let is : end ≡ last = e ∙ ap (rest_from (rest_below tree)) m in
+    let over : IsOver not_allowed tree none next found = subst (λ spans. IsOver not_allowed tree (branches_of_spans spans) next found) c w in
     let to : next + (end - next) ≡ last = omega (arith, is, over.within) in
     subst (λ k. IsOver not_allowed tree none k (found ++ free_elements next (end - next))) to
     (freed not_allowed tree none next (end - next) found over (λ n l h. (omega (arith, to, h), tt)))
@@ -189,18 +189,18 @@ freed_last not_allowed tree rest next least end found w c m e =
 -- a gap is one of those, or one of the rest
 pub onward_cover :
     (not_allowed : Bool) (tree : Tree Row) (gap : Gap) (s : paths.Step) (path : Path) → gap.path ≡ s ∷ path → IsGapIn not_allowed tree gap
-    → IsDone none (rest_from (rest_of tree) (least_at (row_of tree))) s ⊎ IsGapOnward (least_at (row_of tree)) (rest_of tree) gap
+    → IsDone none (rest_from (rest_below tree) (least_at (row_of tree))) s ⊎ IsGapOnward (least_at (row_of tree)) (rest_below tree) gap
 onward_cover not_allowed tree gap (label text) path e h = inl tt
-onward_cover not_allowed tree gap (index n) path e h = elim (cases_lt n (rest_from (rest_of tree) (least_at (row_of tree)))) [
+onward_cover not_allowed tree gap (index n) path e h = elim (cases_lt n (rest_from (rest_below tree) (least_at (row_of tree)))) [
   | inl l ↦ inl l
-  | inr l ↦ inr (onward_down not_allowed tree (rest_of tree) gap n path refl e l
+  | inr l ↦ inr (onward_down not_allowed tree (rest_below tree) gap n path refl e l
       (is_below (row_of tree) n ((longer_is (row_of tree) n).1 (step_demanded not_allowed tree gap (index n) path e h))) h)
 ]
 
 -- and with the rest these are all
 pub ended :
-    (not_allowed : Bool) (tree : Tree Row) (found ys : List Gap) → IsOver not_allowed tree none (rest_from (rest_of tree) (least_at (row_of tree))) found
-    → Lists place_of (IsGapOnward (least_at (row_of tree)) (rest_of tree)) ys → Lists place_of (IsGapIn not_allowed tree) (found ++ ys)
+    (not_allowed : Bool) (tree : Tree Row) (found ys : List Gap) → IsOver not_allowed tree none (rest_from (rest_below tree) (least_at (row_of tree))) found
+    → Lists place_of (IsGapOnward (least_at (row_of tree)) (rest_below tree)) ys → Lists place_of (IsGapIn not_allowed tree) (found ++ ys)
 ended not_allowed tree found ys w adds =
-    with_others not_allowed tree (IsDone none (rest_from (rest_of tree) (least_at (row_of tree)))) (IsGapOnward (least_at (row_of tree)) (rest_of tree)) found ys w.lists adds
-    (λ gap h. onward_up not_allowed tree (rest_of tree) gap refl h) (onward_cover not_allowed tree) (onward_behind (rest_of tree) (least_at (row_of tree)))
+    with_others not_allowed tree (IsDone none (rest_from (rest_below tree) (least_at (row_of tree)))) (IsGapOnward (least_at (row_of tree)) (rest_below tree)) found ys w.lists adds
+    (λ gap h. onward_up not_allowed tree (rest_below tree) gap refl h) (onward_cover not_allowed tree) (onward_behind (rest_below tree) (least_at (row_of tree)))

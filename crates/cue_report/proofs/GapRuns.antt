@@ -5,13 +5,13 @@ use Rattle.cue_lattice.specs.OneOf.{OneOf}
 use Rattle.cue_lattice.specs.Path as paths
 use Rattle.cue_lattice.specs.Path.{index, Path}
 use Rattle.cue_row.specs.declared.parts.RowParts.{RowParts as Row}
-use Rattle.cue_table.specs.Spans.{alike}
+use Rattle.cue_table.specs.Spans.{alike_elements}
 use Rattle.cue_table.specs.StepsOfCode.{step_at}
 use Rattle.cue_table.specs.declared.step_ref.StepRef.{StepRef}
 use Rattle.cue_table.specs.Tree.{Tree, none, child, row_of}
-use Rattle.cue_report.specs.Inner.GapSearch.{IsGapIn, IsGapAmong, IsGapBelow, Adds, above}
+use Rattle.cue_report.specs.Inner.GapSearch.{IsGapIn, IsGapAmong, IsGapBelow, WritesGapsWhere, gap_above}
 use Rattle.cue_report.specs.Inner.Search.{is_demanded, is_refused, least_at}
-use Rattle.cue_report.specs.Telling.{Tally, Grows}
+use Rattle.cue_report.specs.Telling.{Tally, WritesPieces}
 use Rattle.cue_report.specs.declared.gap.Gap.{Gap}
 use Rattle.cue_report.proofs.Found.{found_first}
 use Rattle.cue_report.proofs.FoundGaps.{place_of}
@@ -25,7 +25,7 @@ use Rattle.cue_report.proofs.Walk.{pushed_on}
 
 -- a gap of a field
 pub field_up : (row : Option Row) (step : paths.Step) (tree : Tree Row) → is_demanded row step (row_of tree) ≡ true
-    → (gap : Gap) → IsGapIn (is_refused row step) tree gap → IsGapBelow row (child step tree none) (above (step ∷ []) gap)
+    → (gap : Gap) → IsGapIn (is_refused row step) tree gap → IsGapBelow row (child step tree none) (gap_above (step ∷ []) gap)
 field_up row step tree d gap h = record { step = step; tree = tree; path = gap.path; is = refl; found = found_first step tree none; demanded = d; inner = h }
 
 -- and the way to it
@@ -41,31 +41,31 @@ field_is row step tree gap h =
 -- a field was looked at
 pub field_added :
     {X : Type 0} (piece : Gap → List X) (row : Option Row) (step : paths.Step) (tree : Tree Row) (now after : Tally X) (steps pushed : List StepRef) (x : StepRef)
-    → is_demanded row step (row_of tree) ≡ true → step_at x ≡ step → pushed ≡ steps ++ x ∷ [] → Adds piece (IsGapIn (is_refused row step) tree) (map step_at pushed) now after
-    → Adds piece (IsGapBelow row (child step tree none)) (map step_at steps) now after
+    → is_demanded row step (row_of tree) ≡ true → step_at x ≡ step → pushed ≡ steps ++ x ∷ [] → WritesGapsWhere piece (IsGapIn (is_refused row step) tree) (map step_at pushed) now after
+    → WritesGapsWhere piece (IsGapBelow row (child step tree none)) (map step_at steps) now after
 field_added piece row step tree now after steps pushed x d s p adds =
     let path : Path = map step_at steps in
     record {
-      found = map (above (step ∷ [])) adds.found;
+      found = map (gap_above (step ∷ [])) adds.found;
       lists = record {
-        sound = all_map (IsGapIn (is_refused row step) tree) (IsGapBelow row (child step tree none)) (above (step ∷ [])) adds.found (field_up row step tree d) adds.lists.sound;
+        sound = all_map (IsGapIn (is_refused row step) tree) (IsGapBelow row (child step tree none)) (gap_above (step ∷ [])) adds.found (field_up row step tree d) adds.lists.sound;
         complete = complete;
-        rising = rising_lifted place_of (above (step ∷ [])) step (λ x. refl) adds.found adds.lists.rising;
+        rising = rising_lifted place_of (gap_above (step ∷ [])) step (λ x. refl) adds.found adds.lists.rising;
       };
-      told = subst (Grows now after) (pushed_is piece path (map step_at pushed) step adds.found (pushed_on steps steps pushed x p refl ∙ ap (λ z. path ++ z ∷ []) s)) adds.told;
+      told = subst (WritesPieces now after) (pushed_is piece path (map step_at pushed) step adds.found (pushed_on steps steps pushed x p refl ∙ ap (λ z. path ++ z ∷ []) s)) adds.told;
     }
   where
-    complete : (gap : Gap) → IsGapBelow row (child step tree none) gap → OneOf (λ y. y ≡ gap) (map (above (step ∷ [])) adds.found)
+    complete : (gap : Gap) → IsGapBelow row (child step tree none) gap → OneOf (λ y. y ≡ gap) (map (gap_above (step ∷ [])) adds.found)
     complete gap h =
         let at = field_is row step tree gap h in
         let inner : Gap = record gap { path = at.0 } in
-        subst (λ q. OneOf (λ y. y ≡ record gap { path = q }) (map (above (step ∷ [])) adds.found)) (sym at.1)
-        (one_map (λ y. y ≡ inner) (λ y. y ≡ above (step ∷ []) inner) (above (step ∷ [])) adds.found (λ y f. ap (above (step ∷ [])) f) (adds.lists.complete inner at.2))
+        subst (λ q. OneOf (λ y. y ≡ record gap { path = q }) (map (gap_above (step ∷ [])) adds.found)) (sym at.1)
+        (one_map (λ y. y ≡ inner) (λ y. y ≡ gap_above (step ∷ []) inner) (gap_above (step ∷ [])) adds.found (λ y f. ap (gap_above (step ∷ [])) f) (adds.lists.complete inner at.2))
 
 -- or passed over
 pub field_unasked :
     {X : Type 0} (piece : Gap → List X) (row : Option Row) (step : paths.Step) (tree : Tree Row) (path : Path) (now : Tally X) → is_demanded row step (row_of tree) ≡ false
-    → Adds piece (IsGapBelow row (child step tree none)) path now now
+    → WritesGapsWhere piece (IsGapBelow row (child step tree none)) path now now
 field_unasked piece row step tree path now d = record {
   found = [];
   lists = record { sound = tt; complete = λ gap h. absurd (none_asked h.step h.tree (only_branch h.step step tree h.tree h.found) h.demanded); rising = tt };
@@ -76,7 +76,7 @@ field_unasked piece row step tree path now d = record {
 
 -- the elements that each list has, and the branches that are kept as one
 module _ (row : Option Row) (first more end : ℕ) (tree : Tree Row) (e : end ≡ min (least_at row) (first + more + 1)) where
-  pub run_up : (gap : Gap) → IsGapAmong first end tree gap → IsGapBelow row (alike first more tree none) gap
+  pub run_up : (gap : Gap) → IsGapAmong first end tree gap → IsGapBelow row (alike_elements first more tree none) gap
   run_up gap h = record {
     step = index h.number;
     tree = tree;
@@ -87,7 +87,7 @@ module _ (row : Option Row) (first more end : ℕ) (tree : Tree Row) (e : end �
     inner = subst (λ b. IsGapIn b tree (record gap { path = h.path })) (sym (index_allowed row h.number)) h.inner;
   }
 
-  pub run_down : (gap : Gap) → IsGapBelow row (alike first more tree none) gap → IsGapAmong first end tree gap
+  pub run_down : (gap : Gap) → IsGapBelow row (alike_elements first more tree none) gap → IsGapAmong first end tree gap
   run_down gap h =
       let at = alike_is h.step first more tree h.tree h.found in
       let long = is_below row at.number (subst (λ s. is_demanded row s (row_of h.tree) ≡ true) at.is h.demanded) in
@@ -103,6 +103,6 @@ module _ (row : Option Row) (first more end : ℕ) (tree : Tree Row) (e : end �
 -- they were looked at
 pub run_added :
     {X : Type 0} (piece : Gap → List X) (row : Option Row) (first more end : ℕ) (tree : Tree Row) (path : Path) (now after : Tally X) → end ≡ min (least_at row) (first + more + 1)
-    → Adds piece (IsGapAmong first end tree) path now after → Adds piece (IsGapBelow row (alike first more tree none)) path now after
+    → WritesGapsWhere piece (IsGapAmong first end tree) path now after → WritesGapsWhere piece (IsGapBelow row (alike_elements first more tree none)) path now after
 run_added piece row first more end tree path now after e adds =
-    same_added piece (IsGapAmong first end tree) (IsGapBelow row (alike first more tree none)) path now after (run_up row first more end tree e) (run_down row first more end tree e) adds
+    same_added piece (IsGapAmong first end tree) (IsGapBelow row (alike_elements first more tree none)) path now after (run_up row first more end tree e) (run_down row first more end tree e) adds

@@ -9,17 +9,17 @@ use Rattle.cue_lattice.specs.OneOf.{OneOf}
 use Rattle.cue_lattice.specs.Path as paths
 use Rattle.cue_lattice.specs.Path.{index, step_cmp, Path, path_cmp}
 use Rattle.cue_row.specs.declared.parts.RowParts.{RowParts as Row}
-use Rattle.cue_row.specs.Row.{Refuses, IsRow}
+use Rattle.cue_row.specs.Row.{RefusesAsked, IsRow}
 use Rattle.cue_table.specs.Form.{IsTable}
-use Rattle.cue_table.specs.Spans.{Span, alike, spanned, spread}
+use Rattle.cue_table.specs.Spans.{Span, alike_elements, branches_of_span, branches_of_spans}
 use Rattle.cue_table.specs.StepsOfCode.{step_at}
 use Rattle.cue_table.specs.declared.step_ref.StepRef.{StepRef}
-use Rattle.cue_table.specs.Tree.{Tree, Children, none, child, row_of, rest_of, rest_tree, below}
-use Rattle.cue_report.specs.Inner.GapSearch.{IsGapIn, IsGapHere, IsGapBelow, IsGapAmong, IsGapOnward, IsFront, Fronts, Adds, above, told_above, free_elements, free_before, next_after}
+use Rattle.cue_table.specs.Tree.{Tree, Children, none, child, row_of, rest_below, rest_at, below}
+use Rattle.cue_report.specs.Inner.GapSearch.{IsGapIn, IsGapHere, IsGapBelow, IsGapAmong, IsGapOnward, IsFront, WritesGapsPrefixWhere, WritesGapsWhere, gap_above, gaps_above, free_elements, free_before, next_after}
 use Rattle.cue_report.specs.Listing.{Lists}
 use Rattle.cue_report.specs.Inner.Search.{is_demanded, is_refused, least_at, rest_from}
-use Rattle.cue_report.specs.Telling.{Tally, Grows}
-use Rattle.cue_report.specs.Inner.Telling.{Starts}
+use Rattle.cue_report.specs.Telling.{Tally, WritesPieces}
+use Rattle.cue_report.specs.Inner.Telling.{WritesPiecesPrefix}
 use Rattle.cue_report.specs.declared.gap.Gap.{Gap}
 use Rattle.cue_report.proofs.FoundGaps.{place_of}
 use Rattle.cue_report.proofs.GapFronts.{front_over, front_walked, front_ended, fronts_none, same_fronts}
@@ -36,104 +36,104 @@ pub record IsAlong {X : Type 0} (piece : Gap → List X) (not_allowed : Bool) (t
   pub same : held ≡ steps
   pub found : List Gap
   pub over : IsOver not_allowed tree rest next found
-  pub told : Grows start now (told_above piece (map step_at steps) found)
+  pub told : WritesPieces start now (gaps_above piece (map step_at steps) found)
 
 pub started :
-    {X : Type 0} (piece : Gap → List X) (not_allowed : Bool) (tree : Tree Row) (start now : Tally X) (steps held : List StepRef) → IsTable Refuses IsRow tree → held ≡ steps
-    → Adds piece (IsGapHere not_allowed (row_of tree)) (map step_at steps) start now → IsAlong piece not_allowed tree (below tree) 0 start now steps held
+    {X : Type 0} (piece : Gap → List X) (not_allowed : Bool) (tree : Tree Row) (start now : Tally X) (steps held : List StepRef) → IsTable RefusesAsked IsRow tree → held ≡ steps
+    → WritesGapsWhere piece (IsGapHere not_allowed (row_of tree)) (map step_at steps) start now → IsAlong piece not_allowed tree (below tree) 0 start now steps held
 started piece not_allowed tree start now steps held t e h = record { same = e; found = h.found; over = walk.started not_allowed tree h.found t h.lists; told = h.told }
 
 -- the next span of branches, where a search is
 module _
     {X : Type 0} (piece : Gap → List X) (not_allowed : Bool) (tree inner : Tree Row) (span : Span) (rest left : List (Span × Tree Row)) (next least : ℕ) (start now : Tally X)
-    (steps held : List StepRef) (w : IsAlong piece not_allowed tree (spread rest) next start now steps held) (e : rest ≡ (span, inner) ∷ left) (m : least ≡ least_at (row_of tree)) where
-  here : IsOver not_allowed tree (spanned span inner (spread left)) next w.found
-  here = subst (λ spans. IsOver not_allowed tree (spread spans) next w.found) e w.over
+    (steps held : List StepRef) (w : IsAlong piece not_allowed tree (branches_of_spans rest) next start now steps held) (e : rest ≡ (span, inner) ∷ left) (m : least ≡ least_at (row_of tree)) where
+  here : IsOver not_allowed tree (branches_of_span span inner (branches_of_spans left)) next w.found
+  here = subst (λ spans. IsOver not_allowed tree (branches_of_spans spans) next w.found) e w.over
 
   abbrev free : List Gap
   free = free_before next (least_at (row_of tree)) span
 
   -- the free elements before it were told, or some of them
-  freed : (after : Tally X) → Grows now after (told_above piece (map step_at held) (free_before next least span)) → Grows start after (told_above piece (map step_at steps) (w.found ++ free))
+  freed : (after : Tally X) → WritesPieces now after (gaps_above piece (map step_at held) (free_before next least span)) → WritesPieces start after (gaps_above piece (map step_at steps) (w.found ++ free))
   freed after f =
       found_more piece (map step_at steps) start now after w.found free w.told
-      (subst (λ h. Grows now after (told_above piece (map step_at h) free)) w.same (subst (λ k. Grows now after (told_above piece (map step_at held) (free_before next k span))) m f))
+      (subst (λ h. WritesPieces now after (gaps_above piece (map step_at h) free)) w.same (subst (λ k. WritesPieces now after (gaps_above piece (map step_at held) (free_before next k span))) m f))
 
-  pub begun_free : (after : Tally X) → Starts now after (told_above piece (map step_at held) (free_before next least span)) → Fronts piece (IsGapIn not_allowed tree) (map step_at steps) start after
+  pub begun_free : (after : Tally X) → WritesPiecesPrefix now after (gaps_above piece (map step_at held) (free_before next least span)) → WritesGapsPrefixWhere piece (IsGapIn not_allowed tree) (map step_at steps) start after
   begun_free after f = record {
     found = w.found ++ free;
-    front = front_over not_allowed tree (spanned span inner (spread left)) (walk.reach_of next (least_at (row_of tree)) span) (w.found ++ free) (span_reached not_allowed tree inner span (spread left) next w.found here);
+    front = front_over not_allowed tree (branches_of_span span inner (branches_of_spans left)) (walk.reach_of next (least_at (row_of tree)) span) (w.found ++ free) (span_reached not_allowed tree inner span (branches_of_spans left) next w.found here);
     told = found_later piece (map step_at steps) start now after w.found free w.told
-        (subst (λ h. Starts now after (told_above piece (map step_at h) free)) w.same (subst (λ k. Starts now after (told_above piece (map step_at held) (free_before next k span))) m f));
+        (subst (λ h. WritesPiecesPrefix now after (gaps_above piece (map step_at h) free)) w.same (subst (λ k. WritesPiecesPrefix now after (gaps_above piece (map step_at held) (free_before next k span))) m f));
   }
 
   -- and then the gaps of the span, or some of them
   pub walked_span :
-      (later : ℕ) (middle after : Tally X) (popped : List StepRef) → later ≡ next_after next least span → Grows now middle (told_above piece (map step_at held) (free_before next least span))
-      → popped ≡ held → Adds piece (IsGapBelow (row_of tree) (spanned span inner none)) (map step_at held) middle after → IsAlong piece not_allowed tree (spread left) later start after steps popped
+      (later : ℕ) (middle after : Tally X) (popped : List StepRef) → later ≡ next_after next least span → WritesPieces now middle (gaps_above piece (map step_at held) (free_before next least span))
+      → popped ≡ held → WritesGapsWhere piece (IsGapBelow (row_of tree) (branches_of_span span inner none)) (map step_at held) middle after → IsAlong piece not_allowed tree (branches_of_spans left) later start after steps popped
   walked_span later middle after popped l f back adds = record {
     same = back ∙ w.same;
     found = (w.found ++ free) ++ adds.found;
     over = walk.walked_span not_allowed tree inner span left next later w.found adds.found here (l ∙ ap (λ k. next_after next k span) m) adds.lists;
-    told = found_more piece (map step_at steps) start middle after (w.found ++ free) adds.found (freed middle f) (subst (λ h. Grows middle after (told_above piece (map step_at h) adds.found)) w.same adds.told);
+    told = found_more piece (map step_at steps) start middle after (w.found ++ free) adds.found (freed middle f) (subst (λ h. WritesPieces middle after (gaps_above piece (map step_at h) adds.found)) w.same adds.told);
   }
 
   pub begun_span :
-      (middle after : Tally X) → Grows now middle (told_above piece (map step_at held) (free_before next least span))
-      → Fronts piece (IsGapBelow (row_of tree) (spanned span inner none)) (map step_at held) middle after → Fronts piece (IsGapIn not_allowed tree) (map step_at steps) start after
+      (middle after : Tally X) → WritesPieces now middle (gaps_above piece (map step_at held) (free_before next least span))
+      → WritesGapsPrefixWhere piece (IsGapBelow (row_of tree) (branches_of_span span inner none)) (map step_at held) middle after → WritesGapsPrefixWhere piece (IsGapIn not_allowed tree) (map step_at steps) start after
   begun_span middle after f h = record {
     found = (w.found ++ free) ++ h.found;
-    front = front_walked not_allowed tree inner span (spread left) next w.found h.found here h.front;
-    told = found_later piece (map step_at steps) start middle after (w.found ++ free) h.found (freed middle f) (subst (λ q. Starts middle after (told_above piece (map step_at q) h.found)) w.same h.told);
+    front = front_walked not_allowed tree inner span (branches_of_spans left) next w.found h.found here h.front;
+    told = found_later piece (map step_at steps) start middle after (w.found ++ free) h.found (freed middle f) (subst (λ q. WritesPiecesPrefix middle after (gaps_above piece (map step_at q) h.found)) w.same h.told);
   }
 
 -- the end of a place
 module _
     {X : Type 0} (piece : Gap → List X) (not_allowed : Bool) (tree : Tree Row) (rest : List (Span × Tree Row)) (next least end : ℕ) (start now : Tally X)
-    (steps held : List StepRef) (w : IsAlong piece not_allowed tree (spread rest) next start now steps held) (c : rest ≡ []) (m : least ≡ least_at (row_of tree)) (e : end ≡ rest_from (rest_of tree) least) where
-  last : IsOver not_allowed tree none (rest_from (rest_of tree) (least_at (row_of tree))) (w.found ++ free_elements next (end - next))
+    (steps held : List StepRef) (w : IsAlong piece not_allowed tree (branches_of_spans rest) next start now steps held) (c : rest ≡ []) (m : least ≡ least_at (row_of tree)) (e : end ≡ rest_from (rest_below tree) least) where
+  last : IsOver not_allowed tree none (rest_from (rest_below tree) (least_at (row_of tree))) (w.found ++ free_elements next (end - next))
   last = freed_last not_allowed tree rest next least end w.found w.over c m e
 
-  pub begun_last : (after : Tally X) → Starts now after (told_above piece (map step_at held) (free_elements next (end - next))) → Fronts piece (IsGapIn not_allowed tree) (map step_at steps) start after
+  pub begun_last : (after : Tally X) → WritesPiecesPrefix now after (gaps_above piece (map step_at held) (free_elements next (end - next))) → WritesGapsPrefixWhere piece (IsGapIn not_allowed tree) (map step_at steps) start after
   begun_last after f = record {
     found = w.found ++ free_elements next (end - next);
-    front = front_over not_allowed tree none (rest_from (rest_of tree) (least_at (row_of tree))) (w.found ++ free_elements next (end - next)) last;
+    front = front_over not_allowed tree none (rest_from (rest_below tree) (least_at (row_of tree))) (w.found ++ free_elements next (end - next)) last;
     told = found_later piece (map step_at steps) start now after w.found (free_elements next (end - next)) w.told
-        (subst (λ h. Starts now after (told_above piece (map step_at h) (free_elements next (end - next)))) w.same f);
+        (subst (λ h. WritesPiecesPrefix now after (gaps_above piece (map step_at h) (free_elements next (end - next)))) w.same f);
   }
 
-  all_free : (middle : Tally X) → Grows now middle (told_above piece (map step_at held) (free_elements next (end - next))) → Grows start middle (told_above piece (map step_at steps) (w.found ++ free_elements next (end - next)))
+  all_free : (middle : Tally X) → WritesPieces now middle (gaps_above piece (map step_at held) (free_elements next (end - next))) → WritesPieces start middle (gaps_above piece (map step_at steps) (w.found ++ free_elements next (end - next)))
   all_free middle f =
       found_more piece (map step_at steps) start now middle w.found (free_elements next (end - next)) w.told
-      (subst (λ h. Grows now middle (told_above piece (map step_at h) (free_elements next (end - next)))) w.same f)
+      (subst (λ h. WritesPieces now middle (gaps_above piece (map step_at h) (free_elements next (end - next)))) w.same f)
 
   pub walked_rest :
-      (middle after : Tally X) → Grows now middle (told_above piece (map step_at held) (free_elements next (end - next)))
-      → Adds piece (IsGapOnward (least_at (row_of tree)) (rest_of tree)) (map step_at held) middle after → Adds piece (IsGapIn not_allowed tree) (map step_at steps) start after
+      (middle after : Tally X) → WritesPieces now middle (gaps_above piece (map step_at held) (free_elements next (end - next)))
+      → WritesGapsWhere piece (IsGapOnward (least_at (row_of tree)) (rest_below tree)) (map step_at held) middle after → WritesGapsWhere piece (IsGapIn not_allowed tree) (map step_at steps) start after
   walked_rest middle after f adds = record {
     found = (w.found ++ free_elements next (end - next)) ++ adds.found;
     lists = ended not_allowed tree (w.found ++ free_elements next (end - next)) adds.found last adds.lists;
     told = found_more piece (map step_at steps) start middle after (w.found ++ free_elements next (end - next)) adds.found (all_free middle f)
-        (subst (λ h. Grows middle after (told_above piece (map step_at h) adds.found)) w.same adds.told);
+        (subst (λ h. WritesPieces middle after (gaps_above piece (map step_at h) adds.found)) w.same adds.told);
   }
 
   pub begun_rest :
-      (middle after : Tally X) → Grows now middle (told_above piece (map step_at held) (free_elements next (end - next)))
-      → Fronts piece (IsGapOnward (least_at (row_of tree)) (rest_of tree)) (map step_at held) middle after → Fronts piece (IsGapIn not_allowed tree) (map step_at steps) start after
+      (middle after : Tally X) → WritesPieces now middle (gaps_above piece (map step_at held) (free_elements next (end - next)))
+      → WritesGapsPrefixWhere piece (IsGapOnward (least_at (row_of tree)) (rest_below tree)) (map step_at held) middle after → WritesGapsPrefixWhere piece (IsGapIn not_allowed tree) (map step_at steps) start after
   begun_rest middle after f h = record {
     found = (w.found ++ free_elements next (end - next)) ++ h.found;
     front = front_ended not_allowed tree (w.found ++ free_elements next (end - next)) h.found last h.front;
     told = found_later piece (map step_at steps) start middle after (w.found ++ free_elements next (end - next)) h.found (all_free middle f)
-        (subst (λ q. Starts middle after (told_above piece (map step_at q) h.found)) w.same h.told);
+        (subst (λ q. WritesPiecesPrefix middle after (gaps_above piece (map step_at q) h.found)) w.same h.told);
   }
 
 -- ---- elements that are alike
 -- a gap below a step is before another one
-lifted_before : (s : paths.Step) (ys : List Gap) (path : Path) → AllByRecursion (λ y. path_cmp (place_of y) path ≡ Less) ys → AllByRecursion (λ y. path_cmp (place_of y) (s ∷ path) ≡ Less) (map (above (s ∷ [])) ys)
+lifted_before : (s : paths.Step) (ys : List Gap) (path : Path) → AllByRecursion (λ y. path_cmp (place_of y) path ≡ Less) ys → AllByRecursion (λ y. path_cmp (place_of y) (s ∷ path) ≡ Less) (map (gap_above (s ∷ [])) ys)
 lifted_before s [] path h = tt
 lifted_before s (y ∷ ys) path h = (ap (λ o. ordering_then o (path_cmp y.path path)) (same_step s) ∙ h.0, lifted_before s ys path h.1)
 
-steps_before : (s t : paths.Step) (ys : List Gap) (path : Path) → step_cmp s t ≡ Less → AllByRecursion (λ y. path_cmp (place_of y) (t ∷ path) ≡ Less) (map (above (s ∷ [])) ys)
+steps_before : (s t : paths.Step) (ys : List Gap) (path : Path) → step_cmp s t ≡ Less → AllByRecursion (λ y. path_cmp (place_of y) (t ∷ path) ≡ Less) (map (gap_above (s ∷ [])) ys)
 steps_before s t [] path h = tt
 steps_before s t (y ∷ ys) path h = (ap (λ o. ordering_then o (path_cmp y.path path)) h, steps_before s t ys path h)
 
@@ -144,7 +144,7 @@ module _
   widen gap h = record { number = h.number; within = (h.within.0, omega (arith, h.within.1, more)); path = h.path; is = h.is; inner = h.inner }
 
   abbrev lifted : List Gap
-  lifted = map (above (index number ∷ [])) ys
+  lifted = map (gap_above (index number ∷ [])) ys
 
   -- those at the elements before are before each gap from the element on
   first_before : (gap : Gap) (k : ℕ) (path : Path) → gap.path ≡ index k ∷ path → number ≤ k → AllByRecursion (λ y. path_cmp (place_of y) gap.path ≡ Less) xs
@@ -161,7 +161,7 @@ module _
         ⊎_elim
         (λ o. inl (one_right (λ y. y ≡ gap) xs lifted
         (subst (λ p. OneOf (λ y. y ≡ record gap { path = p }) lifted) (sym is)
-        (one_map (λ y. y ≡ inner) (λ y. y ≡ above (index number ∷ []) inner) (above (index number ∷ [])) ys (λ y f. ap (above (index number ∷ [])) f) o))))
+        (one_map (λ y. y ≡ inner) (λ y. y ≡ gap_above (index number ∷ []) inner) (gap_above (index number ∷ [])) ys (λ y f. ap (gap_above (index number ∷ [])) f) o))))
         (λ b. inr (all_append (λ y. path_cmp (place_of y) gap.path ≡ Less) xs lifted (first_before gap h.number h.path h.is l)
         (subst (λ p. AllByRecursion (λ y. path_cmp (place_of y) p ≡ Less) lifted) (sym is) (lifted_before (index number) ys h.path b))))
         (found.next inner h.inner))
@@ -174,30 +174,30 @@ module _
   front_more = record {
     sound = all_append (IsGapAmong first end tree) xs lifted
         (all_from (IsGapAmong first number tree) (IsGapAmong first end tree) xs (λ gap h. widen gap (among_more first number tree low gap h)) so_far.sound)
-        (all_map (IsGapIn false tree) (IsGapAmong first end tree) (above (index number ∷ [])) ys (λ gap h. widen (above (index number ∷ []) gap) (among_last first number tree low gap h)) found.sound);
-    rising = rising_append place_of xs lifted so_far.rising (rising_lifted place_of (above (index number ∷ [])) (index number) (λ x. refl) ys found.rising)
+        (all_map (IsGapIn false tree) (IsGapAmong first end tree) (gap_above (index number ∷ [])) ys (λ gap h. widen (gap_above (index number ∷ []) gap) (among_last first number tree low gap h)) found.sound);
+    rising = rising_append place_of xs lifted so_far.rising (rising_lifted place_of (gap_above (index number ∷ [])) (index number) (λ x. refl) ys found.rising)
         (all_from (IsGapAmong first number tree) (λ x. AllByRecursion (λ y. path_cmp (place_of x) (place_of y) ≡ Less) lifted) xs (λ x h. all_before x ys h) so_far.sound);
     next = next_gap;
   } where
-    all_before : (x : Gap) (zs : List Gap) → IsGapAmong first number tree x → AllByRecursion (λ y. path_cmp (place_of x) (place_of y) ≡ Less) (map (above (index number ∷ [])) zs)
+    all_before : (x : Gap) (zs : List Gap) → IsGapAmong first number tree x → AllByRecursion (λ y. path_cmp (place_of x) (place_of y) ≡ Less) (map (gap_above (index number ∷ [])) zs)
     all_before x [] h = tt
     all_before x (z ∷ zs) h = (element_before number x.path z.path h.path h.number h.is h.within.1, all_before x zs h)
 
 -- an element was begun
 pub begun_element :
     {X : Type 0} (piece : Gap → List X) (first number end : ℕ) (tree : Tree Row) (path pushed : Path) (start now after : Tally X) → first ≤ number → number < end
-    → Adds piece (IsGapAmong first number tree) path start now → pushed ≡ path ++ index number ∷ [] → Fronts piece (IsGapIn false tree) pushed now after
-    → Fronts piece (IsGapAmong first end tree) path start after
+    → WritesGapsWhere piece (IsGapAmong first number tree) path start now → pushed ≡ path ++ index number ∷ [] → WritesGapsPrefixWhere piece (IsGapIn false tree) pushed now after
+    → WritesGapsPrefixWhere piece (IsGapAmong first end tree) path start after
 begun_element piece first number end tree path pushed start now after l m h p f = record {
-  found = h.found ++ map (above (index number ∷ [])) f.found;
+  found = h.found ++ map (gap_above (index number ∷ [])) f.found;
   front = front_more first number end tree l h.found f.found h.lists f.front m;
-  told = found_later piece path start now after h.found (map (above (index number ∷ [])) f.found) h.told (subst (Starts now after) (pushed_is piece path pushed (index number) f.found p) f.told);
+  told = found_later piece path start now after h.found (map (gap_above (index number ∷ [])) f.found) h.told (subst (WritesPiecesPrefix now after) (pushed_is piece path pushed (index number) f.found p) f.told);
 }
 
 -- no further element was begun
 pub begun_alike :
     {X : Type 0} (piece : Gap → List X) (first number end : ℕ) (tree : Tree Row) (path : Path) (start now : Tally X) → first ≤ number → number < end
-    → Adds piece (IsGapAmong first number tree) path start now → Fronts piece (IsGapAmong first end tree) path start now
+    → WritesGapsWhere piece (IsGapAmong first number tree) path start now → WritesGapsPrefixWhere piece (IsGapAmong first end tree) path start now
 begun_alike piece first number end tree path start now l m h =
     begun_element piece first number end tree path (path ++ index number ∷ []) start now now l m h refl
     (fronts_none piece (IsGapIn false tree) (path ++ index number ∷ []) now now refl)
@@ -205,39 +205,39 @@ begun_alike piece first number end tree path start now l m h =
 -- a field was begun
 pub begun_field :
     {X : Type 0} (piece : Gap → List X) (row : Option Row) (step : paths.Step) (tree : Tree Row) (now after : Tally X) (steps pushed : List StepRef) (x : StepRef)
-    → is_demanded row step (row_of tree) ≡ true → step_at x ≡ step → pushed ≡ steps ++ x ∷ [] → Fronts piece (IsGapIn (is_refused row step) tree) (map step_at pushed) now after
-    → Fronts piece (IsGapBelow row (child step tree none)) (map step_at steps) now after
+    → is_demanded row step (row_of tree) ≡ true → step_at x ≡ step → pushed ≡ steps ++ x ∷ [] → WritesGapsPrefixWhere piece (IsGapIn (is_refused row step) tree) (map step_at pushed) now after
+    → WritesGapsPrefixWhere piece (IsGapBelow row (child step tree none)) (map step_at steps) now after
 begun_field piece row step tree now after steps pushed x d s p f = record {
-  found = map (above (step ∷ [])) f.found;
+  found = map (gap_above (step ∷ [])) f.found;
   front = record {
-    sound = all_map (IsGapIn (is_refused row step) tree) (IsGapBelow row (child step tree none)) (above (step ∷ [])) f.found (field_up row step tree d) f.front.sound;
-    rising = rising_lifted place_of (above (step ∷ [])) step (λ x. refl) f.found f.front.rising;
+    sound = all_map (IsGapIn (is_refused row step) tree) (IsGapBelow row (child step tree none)) (gap_above (step ∷ [])) f.found (field_up row step tree d) f.front.sound;
+    rising = rising_lifted place_of (gap_above (step ∷ [])) step (λ x. refl) f.found f.front.rising;
     next = next;
   };
-  told = subst (Starts now after) (pushed_is piece (map step_at steps) (map step_at pushed) step f.found (pushed_on steps steps pushed x p refl ∙ ap (λ z. map step_at steps ++ z ∷ []) s)) f.told;
+  told = subst (WritesPiecesPrefix now after) (pushed_is piece (map step_at steps) (map step_at pushed) step f.found (pushed_on steps steps pushed x p refl ∙ ap (λ z. map step_at steps ++ z ∷ []) s)) f.told;
 } where
-  next : (gap : Gap) → IsGapBelow row (child step tree none) gap → OneOf (λ y. y ≡ gap) (map (above (step ∷ [])) f.found) ⊎ AllByRecursion (λ y. path_cmp (place_of y) gap.path ≡ Less) (map (above (step ∷ [])) f.found)
+  next : (gap : Gap) → IsGapBelow row (child step tree none) gap → OneOf (λ y. y ≡ gap) (map (gap_above (step ∷ [])) f.found) ⊎ AllByRecursion (λ y. path_cmp (place_of y) gap.path ≡ Less) (map (gap_above (step ∷ [])) f.found)
   next gap h =
       let at = field_is row step tree gap h in
       let inner : Gap = record gap { path = at.0 } in
       ⊎_elim
-      (λ o. inl (subst (λ p. OneOf (λ y. y ≡ record gap { path = p }) (map (above (step ∷ [])) f.found)) (sym at.1)
-      (one_map (λ y. y ≡ inner) (λ y. y ≡ above (step ∷ []) inner) (above (step ∷ [])) f.found (λ y g. ap (above (step ∷ [])) g) o)))
-      (λ b. inr (subst (λ p. AllByRecursion (λ y. path_cmp (place_of y) p ≡ Less) (map (above (step ∷ [])) f.found)) (sym at.1) (lifted_before step f.found at.0 b)))
+      (λ o. inl (subst (λ p. OneOf (λ y. y ≡ record gap { path = p }) (map (gap_above (step ∷ [])) f.found)) (sym at.1)
+      (one_map (λ y. y ≡ inner) (λ y. y ≡ gap_above (step ∷ []) inner) (gap_above (step ∷ [])) f.found (λ y g. ap (gap_above (step ∷ [])) g) o)))
+      (λ b. inr (subst (λ p. AllByRecursion (λ y. path_cmp (place_of y) p ≡ Less) (map (gap_above (step ∷ [])) f.found)) (sym at.1) (lifted_before step f.found at.0 b)))
       (f.front.next inner at.2)
 
 -- elements that are kept as one were begun
 pub begun_run :
     {X : Type 0} (piece : Gap → List X) (row : Option Row) (first more end : ℕ) (tree : Tree Row) (path : Path) (now after : Tally X) → end ≡ min (least_at row) (first + more + 1)
-    → Fronts piece (IsGapAmong first end tree) path now after → Fronts piece (IsGapBelow row (alike first more tree none)) path now after
+    → WritesGapsPrefixWhere piece (IsGapAmong first end tree) path now after → WritesGapsPrefixWhere piece (IsGapBelow row (alike_elements first more tree none)) path now after
 begun_run piece row first more end tree path now after e f =
-    same_fronts piece (IsGapAmong first end tree) (IsGapBelow row (alike first more tree none)) path now after (run_up row first more end tree e) (run_down row first more end tree e) f
+    same_fronts piece (IsGapAmong first end tree) (IsGapBelow row (alike_elements first more tree none)) path now after (run_up row first more end tree e) (run_down row first more end tree e) f
 
 -- or those of the rest
 pub begun_among :
-    {X : Type 0} (piece : Gap → List X) (tree rest : Tree Row) (first least : ℕ) (path : Path) (start after : Tally X) → Some rest ≡ rest_tree (rest_of tree)
-    → least ≡ least_at (row_of tree) → first ≡ rest_from (rest_of tree) least
-    → Fronts piece (IsGapAmong first least rest) path start after → Fronts piece (IsGapOnward (least_at (row_of tree)) (rest_of tree)) path start after
+    {X : Type 0} (piece : Gap → List X) (tree rest : Tree Row) (first least : ℕ) (path : Path) (start after : Tally X) → Some rest ≡ rest_at (rest_below tree)
+    → least ≡ least_at (row_of tree) → first ≡ rest_from (rest_below tree) least
+    → WritesGapsPrefixWhere piece (IsGapAmong first least rest) path start after → WritesGapsPrefixWhere piece (IsGapOnward (least_at (row_of tree)) (rest_below tree)) path start after
 begun_among piece tree rest first least path start after r m f h =
-    same_fronts piece (IsGapAmong first least rest) (IsGapOnward (least_at (row_of tree)) (rest_of tree)) path start after
+    same_fronts piece (IsGapAmong first least rest) (IsGapOnward (least_at (row_of tree)) (rest_below tree)) path start after
     (λ gap. (among_onward tree rest first least r m f gap).0) (λ gap. (among_onward tree rest first least r m f gap).1) h

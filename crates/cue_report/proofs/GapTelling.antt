@@ -5,40 +5,40 @@ use Rattle.std.proofs.lemmas.List.{append-nil, map-append}
 use Rattle.std.proofs.lemmas.List.Concat.{flat_map-append}
 use Rattle.cue_lattice.specs.Path as paths
 use Rattle.cue_lattice.specs.Path.{index, Path}
-use Rattle.cue_report.specs.Inner.GapSearch.{above, told_above, free_at, free_elements}
-use Rattle.cue_report.specs.Telling.{Tally, Grows}
-use Rattle.cue_report.specs.Inner.Telling.{Starts}
+use Rattle.cue_report.specs.Inner.GapSearch.{gap_above, gaps_above, free_at, free_elements}
+use Rattle.cue_report.specs.Telling.{Tally, WritesPieces}
+use Rattle.cue_report.specs.Inner.Telling.{WritesPiecesPrefix}
 use Rattle.cue_report.specs.declared.gap.Gap.{Gap}
 use Rattle.cue_report.proofs.Telling.{grows_then, starts_now, starts_later}
 
 -- what is seen from a place is seen from the place above
-pub above_further : (path : Path) (step : paths.Step) (xs : List Gap) → map (above (path ++ step ∷ [])) xs ≡ map (above path) (map (above (step ∷ [])) xs)
+pub above_further : (path : Path) (step : paths.Step) (xs : List Gap) → map (gap_above (path ++ step ∷ [])) xs ≡ map (gap_above path) (map (gap_above (step ∷ [])) xs)
 above_further path step [] = refl
 above_further path step (x ∷ xs) =
     let e : (path ++ step ∷ []) ++ x.path ≡ path ++ step ∷ x.path = append_assoc path (step ∷ []) x.path in
-    let first : above (path ++ step ∷ []) x ≡ above path (above (step ∷ []) x) = ap (λ (p : Path). record x { path = p }) e in
-    ap (λ y. y ∷ map (above (path ++ step ∷ [])) xs) first ∙ ap (λ ys. above path (above (step ∷ []) x) ∷ ys) (above_further path step xs)
+    let first : gap_above (path ++ step ∷ []) x ≡ gap_above path (gap_above (step ∷ []) x) = ap (λ (p : Path). record x { path = p }) e in
+    ap (λ y. y ∷ map (gap_above (path ++ step ∷ [])) xs) first ∙ ap (λ ys. gap_above path (gap_above (step ∷ []) x) ∷ ys) (above_further path step xs)
 
 -- what is told of some and of others
-pub told_append : {X : Type 0} (piece : Gap → List X) (path : Path) (xs ys : List Gap) → told_above piece path (xs ++ ys) ≡ told_above piece path xs ++ told_above piece path ys
-told_append piece path xs ys = ap (flat_map piece) (map-append (above path) xs ys) ∙ flat_map-append piece (map (above path) xs) (map (above path) ys)
+pub told_append : {X : Type 0} (piece : Gap → List X) (path : Path) (xs ys : List Gap) → gaps_above piece path (xs ++ ys) ≡ gaps_above piece path xs ++ gaps_above piece path ys
+told_append piece path xs ys = ap (flat_map piece) (map-append (gap_above path) xs ys) ∙ flat_map-append piece (map (gap_above path) xs) (map (gap_above path) ys)
 
 -- more is told
-pub found_more : {X : Type 0} (piece : Gap → List X) (path : Path) (u v w : Tally X) (xs ys : List Gap) → Grows u v (told_above piece path xs) → Grows v w (told_above piece path ys)
-    → Grows u w (told_above piece path (xs ++ ys))
-found_more piece path u v w xs ys g h = subst (Grows u w) (sym (told_append piece path xs ys)) (grows_then u v w (told_above piece path xs) (told_above piece path ys) g h)
+pub found_more : {X : Type 0} (piece : Gap → List X) (path : Path) (u v w : Tally X) (xs ys : List Gap) → WritesPieces u v (gaps_above piece path xs) → WritesPieces v w (gaps_above piece path ys)
+    → WritesPieces u w (gaps_above piece path (xs ++ ys))
+found_more piece path u v w xs ys g h = subst (WritesPieces u w) (sym (told_append piece path xs ys)) (grows_then u v w (gaps_above piece path xs) (gaps_above piece path ys) g h)
 
-pub found_later : {X : Type 0} (piece : Gap → List X) (path : Path) (u v w : Tally X) (xs ys : List Gap) → Grows u v (told_above piece path xs) → Starts v w (told_above piece path ys)
-    → Starts u w (told_above piece path (xs ++ ys))
-found_later piece path u v w xs ys g h = subst (Starts u w) (sym (told_append piece path xs ys)) (starts_later u v w (told_above piece path xs) (told_above piece path ys) g h)
+pub found_later : {X : Type 0} (piece : Gap → List X) (path : Path) (u v w : Tally X) (xs ys : List Gap) → WritesPieces u v (gaps_above piece path xs) → WritesPiecesPrefix v w (gaps_above piece path ys)
+    → WritesPiecesPrefix u w (gaps_above piece path (xs ++ ys))
+found_later piece path u v w xs ys g h = subst (WritesPiecesPrefix u w) (sym (told_append piece path xs ys)) (starts_later u v w (gaps_above piece path xs) (gaps_above piece path ys) g h)
 
-pub found_now : {X : Type 0} (piece : Gap → List X) (path : Path) (u v : Tally X) (xs ys : List Gap) → Starts u v (told_above piece path xs) → Starts u v (told_above piece path (xs ++ ys))
-found_now piece path u v xs ys h = subst (Starts u v) (sym (told_append piece path xs ys)) (starts_now u v (told_above piece path xs) (told_above piece path ys) h)
+pub found_now : {X : Type 0} (piece : Gap → List X) (path : Path) (u v : Tally X) (xs ys : List Gap) → WritesPiecesPrefix u v (gaps_above piece path xs) → WritesPiecesPrefix u v (gaps_above piece path (xs ++ ys))
+found_now piece path u v xs ys h = subst (WritesPiecesPrefix u v) (sym (told_append piece path xs ys)) (starts_now u v (gaps_above piece path xs) (gaps_above piece path ys) h)
 
 -- what is told one step further is told of these
 pub pushed_is : {X : Type 0} (piece : Gap → List X) (path pushed : Path) (step : paths.Step) (found : List Gap) → pushed ≡ path ++ step ∷ []
-    → told_above piece pushed found ≡ told_above piece path (map (above (step ∷ [])) found)
-pushed_is piece path pushed step found p = ap (λ q. told_above piece q found) p ∙ ap (flat_map piece) (above_further path step found)
+    → gaps_above piece pushed found ≡ gaps_above piece path (map (gap_above (step ∷ [])) found)
+pushed_is piece path pushed step found p = ap (λ q. gaps_above piece q found) p ∙ ap (flat_map piece) (above_further path step found)
 
 -- one more free element
 free_next : (first number : ℕ) → first ≤ number → free_elements first (number + 1 - first) ≡ free_elements first (number - first) ++ free_at (index number ∷ []) ∷ []
@@ -47,17 +47,17 @@ free_next first number l =
     let last : first + (number - first) ≡ number = omega arith in
     ap (free_elements first) count ∙ ap (λ k. free_elements first (number - first) ++ free_at (index k ∷ []) ∷ []) last
 
-one_told : {X : Type 0} (piece : Gap → List X) (path : Path) (gap : Gap) → told_above piece path (gap ∷ []) ≡ piece (above path gap)
-one_told piece path gap = append-nil (piece (above path gap))
+one_told : {X : Type 0} (piece : Gap → List X) (path : Path) (gap : Gap) → gaps_above piece path (gap ∷ []) ≡ piece (gap_above path gap)
+one_told piece path gap = append-nil (piece (gap_above path gap))
 
 pub one_more_free :
     {X : Type 0} (piece : Gap → List X) (first number : ℕ) (start now after : Tally X) (path : Path) → first ≤ number
-    → Grows start now (told_above piece path (free_elements first (number - first))) → Grows now after (piece (above path (free_at (index number ∷ []))))
-    → Grows start after (told_above piece path (free_elements first (number + 1 - first)))
+    → WritesPieces start now (gaps_above piece path (free_elements first (number - first))) → WritesPieces now after (piece (gap_above path (free_at (index number ∷ []))))
+    → WritesPieces start after (gaps_above piece path (free_elements first (number + 1 - first)))
 one_more_free piece first number start now after path l n a =
-    subst (λ xs. Grows start after (told_above piece path xs)) (sym (free_next first number l))
+    subst (λ xs. WritesPieces start after (gaps_above piece path xs)) (sym (free_next first number l))
     (found_more piece path start now after (free_elements first (number - first)) (free_at (index number ∷ []) ∷ []) n
-    (subst (Grows now after) (sym (one_told piece path (free_at (index number ∷ [])))) a))
+    (subst (WritesPieces now after) (sym (one_told piece path (free_at (index number ∷ [])))) a))
 
 -- and those behind some
 free_split : (first n m : ℕ) → (more : List Gap) × (free_elements first (n + m) ≡ free_elements first n ++ more)
@@ -71,20 +71,20 @@ free_split first n (suc m) =
     (before.0 ++ last, ap (free_elements first) count ∙ ap (λ xs. xs ++ last) before.1 ∙ append_assoc (free_elements first n) before.0 last)
 
 pub free_begun :
-    {X : Type 0} (piece : Gap → List X) (first some all : ℕ) (start after : Tally X) (path : Path) → some ≤ all → Starts start after (told_above piece path (free_elements first some))
-    → Starts start after (told_above piece path (free_elements first all))
+    {X : Type 0} (piece : Gap → List X) (first some all : ℕ) (start after : Tally X) (path : Path) → some ≤ all → WritesPiecesPrefix start after (gaps_above piece path (free_elements first some))
+    → WritesPiecesPrefix start after (gaps_above piece path (free_elements first all))
 free_begun piece first some all start after path l h =
     let split = free_split first some (all - some) in
     let count : some + (all - some) ≡ all = omega arith in
-    subst (λ xs. Starts start after (told_above piece path xs)) (sym split.1 ∙ ap (free_elements first) count)
+    subst (λ xs. WritesPiecesPrefix start after (gaps_above piece path xs)) (sym split.1 ∙ ap (free_elements first) count)
     (found_now piece path start after (free_elements first some) split.0 h)
 
 pub one_begun_free :
     {X : Type 0} (piece : Gap → List X) (first number end : ℕ) (start now after : Tally X) (path : Path) → first ≤ number → number < end
-    → Grows start now (told_above piece path (free_elements first (number - first))) → Starts now after (piece (above path (free_at (index number ∷ []))))
-    → Starts start after (told_above piece path (free_elements first (end - first)))
+    → WritesPieces start now (gaps_above piece path (free_elements first (number - first))) → WritesPiecesPrefix now after (piece (gap_above path (free_at (index number ∷ []))))
+    → WritesPiecesPrefix start after (gaps_above piece path (free_elements first (end - first)))
 one_begun_free piece first number end start now after path l m n a =
     free_begun piece first (number + 1 - first) (end - first) start after path (omega arith)
-    (subst (λ xs. Starts start after (told_above piece path xs)) (sym (free_next first number l))
+    (subst (λ xs. WritesPiecesPrefix start after (gaps_above piece path xs)) (sym (free_next first number l))
     (found_later piece path start now after (free_elements first (number - first)) (free_at (index number ∷ []) ∷ []) n
-    (subst (Starts now after) (sym (one_told piece path (free_at (index number ∷ [])))) a)))
+    (subst (WritesPiecesPrefix now after) (sym (one_told piece path (free_at (index number ∷ [])))) a)))

@@ -21,7 +21,7 @@ has_value row f e n = false≢true (sym e ∙ (no_value_is (Some row) f).1 n)
 -- where only scalars may stand, a value is open where none is chosen
 pub open_chosen :
     (row : Row) (found : Option Scalar) (open_is : Bool) → IsRow row → lacks_value row ≡ false → row.struct_ok ≡ false → row.list_ok ≡ false
-    → IfSome found (rows.IsChosen row) → IfNone found ((scalar : Scalar) → ¬ rows.IsChosen row scalar) → is_some found ≡ not open_is
+    → IfSome found (rows.IsRowChosen row) → IfNone found ((scalar : Scalar) → ¬ rows.IsRowChosen row scalar) → is_some found ≡ not open_is
     → IsTrue open_is ↔ IsOpenAt (Some row)
 open_chosen row (Some x) true f v s l h n e = absurd (false≢true (sym e))
 open_chosen row (Some x) false f v s l h n e = (

@@ -21,7 +21,7 @@ use Rattle.cue_report.proofs.Empty.{refused_empty, empty_refused}
 
 -- what the row at a place refuses, where there is one
 abbrev pub RefusedAt : Option Row → Question → Type 0
-RefusedAt = RowRefuses rows.RowRefuses
+RefusedAt = RowRefuses rows.RowRefusesQuestion
 
 -- no value may stand at a place with this row
 abbrev pub NoValueAt : Option Row → Type 0
@@ -58,7 +58,7 @@ value_cases row false false e f form = (
 )
 
 -- whether no value may stand is what the row says
-pub no_value_is : (row : Option Row) → form.IsRow IsRow row → IsTrue (has_no_value row) ↔ NoValueAt row
+pub no_value_is : (row : Option Row) → form.IsTableRow IsRow row → IsTrue (has_no_value row) ↔ NoValueAt row
 no_value_is None h = (λ e. absurd (false≢true e), λ n. ⊎_elim (λ m. absurd m.1) (λ m. ⊎_elim (λ f. absurd f) (λ f. absurd f) (m.1 0)) n)
 no_value_is (Some row) h = value_cases row row.list_ok row.struct_ok refl refl h
 

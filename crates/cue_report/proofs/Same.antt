@@ -5,8 +5,8 @@ use Rattle.cue_lattice.specs.Path as paths
 use Rattle.cue_lattice.specs.Path.{label, index, Path}
 use Rattle.cue_lattice.specs.Question.{Refusals, SameAnswers, struct, list}
 use Rattle.cue_report.specs.Answers.{IsStepDemanded, IsDemanded, HasNoScalar, HasNoLength, HasNoValue, IsNotAllowed}
-use Rattle.cue_report.specs.Export.{beyond}
-use Rattle.cue_report.specs.Gaps.{IsMissing, MayStand, IsUsual, IsChosen, IsFree, HasNoChoice, IsGap}
+use Rattle.cue_report.specs.Export.{refused_below}
+use Rattle.cue_report.specs.Gaps.{IsMissing, MayScalarStand, IsUsual, IsChosenScalar, IsFreeRow, HasNoChoice, IsReportGap}
 use Rattle.cue_report.specs.Listing.{IsConflict}
 use Rattle.cue_report.specs.declared.conflict.Conflict.{Conflict}
 use Rattle.cue_report.specs.declared.gap.Gap.{Gap}
@@ -14,7 +14,7 @@ use Rattle.cue_report.specs.declared.gap.Gap.{Gap}
 pub swapped : (a b : Refusals) → SameAnswers a b → SameAnswers b a
 swapped a b same path question = ((same path question).1, (same path question).0)
 
-pub same_beyond : (a b : Refusals) (step : paths.Step) → SameAnswers a b → SameAnswers (beyond a step) (beyond b step)
+pub same_beyond : (a b : Refusals) (step : paths.Step) → SameAnswers a b → SameAnswers (refused_below a step) (refused_below b step)
 same_beyond a b step same path question = same (step ∷ path) question
 
 pub step_there : (a b : Refusals) (path : Path) (step : paths.Step) → SameAnswers a b → IsStepDemanded a path step → IsStepDemanded b path step
@@ -40,13 +40,13 @@ not_allowed_there a b path same (above, text, e, r) = (above, text, e, (same _ _
 missing_there : (a b : Refusals) (path : Path) → SameAnswers a b → IsMissing a path → IsMissing b path
 missing_there a b path same h = ((same _ _).0 h.0, λ r. h.1 ((same _ _).1 r))
 
-may_there : (a b : Refusals) (path : Path) (x : Scalar) → SameAnswers a b → MayStand a path x → MayStand b path x
+may_there : (a b : Refusals) (path : Path) (x : Scalar) → SameAnswers a b → MayScalarStand a path x → MayScalarStand b path x
 may_there a b path x same h = (h.0, λ r. h.1 ((same _ _).1 r))
 
 usual_there : (a b : Refusals) (path : Path) (x : Scalar) → SameAnswers a b → IsUsual a path x → IsUsual b path x
 usual_there a b path x same h = (h.0, λ r. h.1 ((same _ _).1 r))
 
-pub chosen_there : (a b : Refusals) (path : Path) (x : Scalar) → SameAnswers a b → IsChosen a path x → IsChosen b path x
+pub chosen_there : (a b : Refusals) (path : Path) (x : Scalar) → SameAnswers a b → IsChosenScalar a path x → IsChosenScalar b path x
 chosen_there a b path x same (inl h) =
     inl (usual_there a b path x same h.0, λ other u. h.1 other (usual_there b a path other (swapped a b same) u))
 chosen_there a b path x same (inr h) =
@@ -55,7 +55,7 @@ chosen_there a b path x same (inr h) =
       (may_there a b path x same h.1.0, λ other m. h.1.1 other (may_there b a path other (swapped a b same) m)),
     )
 
-pub free_there : (a b : Refusals) (path : Path) → SameAnswers a b → IsFree a path → IsFree b path
+pub free_there : (a b : Refusals) (path : Path) → SameAnswers a b → IsFreeRow a path → IsFreeRow b path
 free_there a b path same h = (λ scalar r. h.0 scalar ((same _ _).1 r), λ r. h.1 ((same _ _).1 r), λ r. h.2 ((same _ _).1 r))
 
 no_choice_there : (a b : Refusals) (path : Path) → SameAnswers a b → HasNoChoice a path → HasNoChoice b path
@@ -74,7 +74,7 @@ conflict_there a b conflict same h = record {
   cause = h.cause;
 }
 
-pub gap_there : (a b : Refusals) (gap : Gap) → SameAnswers a b → IsGap a gap → IsGap b gap
+pub gap_there : (a b : Refusals) (gap : Gap) → SameAnswers a b → IsReportGap a gap → IsReportGap b gap
 gap_there a b gap same h = record {
   demanded = demanded_there a b gap.path same h.demanded;
   has_value = λ n. h.has_value (no_value_there b a gap.path (swapped a b same) n);

@@ -5,9 +5,9 @@ use Rattle.cue_lattice.specs.OneOf.{OneOf}
 use Rattle.cue_lattice.specs.Path.{Path}
 use Rattle.cue_row.specs.declared.parts.RowParts.{RowParts as Row}
 use Rattle.cue_table.specs.Tree.{Tree}
-use Rattle.cue_report.specs.Inner.GapSearch.{IsGapIn, IsGapAmong, Adds, above}
+use Rattle.cue_report.specs.Inner.GapSearch.{IsGapIn, IsGapAmong, WritesGapsWhere, gap_above}
 use Rattle.cue_report.specs.Inner.Search.{each_index}
-use Rattle.cue_report.specs.Telling.{Tally, Grows}
+use Rattle.cue_report.specs.Telling.{Tally, WritesPieces}
 use Rattle.cue_report.specs.declared.conflict.Conflict.{Conflict}
 use Rattle.cue_report.specs.declared.gap.Gap.{Gap}
 use Rattle.cue_report.proofs.Order.{all_from}
@@ -20,7 +20,7 @@ module _ {X Y : Type 0} (piece : Y → List X) (some : (y : Y) → 0 < length (p
       omega (arith, here, all)
 
   -- where nothing was told, nothing was found
-  pub silent : (lift : Y → Y) (found : List Y) (now after : Tally X) → Grows now after (flat_map piece (map lift found)) → after.count ≡ now.count → found ≡ []
+  pub silent : (lift : Y → Y) (found : List Y) (now after : Tally X) → WritesPieces now after (flat_map piece (map lift found)) → after.count ≡ now.count → found ≡ []
   silent lift [] now after a same = refl
   silent lift (y ∷ found) now after a same =
       let more = pieces_some lift y found in
@@ -37,7 +37,7 @@ any_elements first count other found none =
 
 -- and so of gaps
 pub any_among : {X : Type 0} (piece : Gap → List X) → ((gap : Gap) → 0 < length (piece gap)) → (first number least : ℕ) (tree : Tree Row) (path pushed : Path) (start now after : Tally X) → after.count ≡ now.count
-    → Adds piece (IsGapIn false tree) pushed now after → Adds piece (IsGapAmong first number tree) path start after → Adds piece (IsGapAmong first least tree) path start after
+    → WritesGapsWhere piece (IsGapIn false tree) pushed now after → WritesGapsWhere piece (IsGapAmong first number tree) path start after → WritesGapsWhere piece (IsGapAmong first least tree) path start after
 any_among piece some first number least tree path pushed start now after same here all = record {
   found = all.found;
   lists = record {
@@ -48,7 +48,7 @@ any_among piece some first number least tree path pushed start now after same he
   told = all.told;
 } where
   found_none : here.found ≡ []
-  found_none = silent piece some (above pushed) here.found now after here.told same
+  found_none = silent piece some (gap_above pushed) here.found now after here.told same
 
   inner_none : (gap : Gap) → ¬ IsGapIn false tree gap
   inner_none gap h = subst (λ xs. (x : Gap) → IsGapIn false tree x → OneOf (λ y. y ≡ x) xs) found_none here.lists.complete gap h

@@ -4,10 +4,10 @@ use Rattle.std.specs.List.{flat_map}
 use Rattle.std.proofs.lemmas.List.{append_assoc, append-nil, flat_map_more, take_all, take_more, map_push, map_more}
 use Rattle.cue_lattice.specs.Path as paths
 use Rattle.cue_lattice.specs.Path.{Path}
-use Rattle.cue_row.specs.PathText.{dot, step_text, path_text}
+use Rattle.cue_row.specs.PathText.{path_dot, step_text, path_text}
 use Rattle.cue_table.specs.StepsOfCode.{step_at}
 use Rattle.cue_table.specs.declared.step_ref.StepRef.{StepRef}
-use Rattle.cue_report.specs.Lines.{line_end}
+use Rattle.cue_report.specs.Lines.{report_line_end}
 use Rattle.cue_report.specs.Inner.Trail.{dotted_behind, shown_steps}
 
 -- what is written for each element, with that of the next one
@@ -25,18 +25,18 @@ listed (x ∷ xs) = ap (λ ys. x ∷ ys) (listed xs)
 pub path_behind : (path : Path) (step : paths.Step) → path_text (path ++ step ∷ []) ≡ flat_map dotted_behind path ++ step_text step
 path_behind [] step = refl
 path_behind (first ∷ []) step =
-    sym (ap (λ t. t ++ step_text step) (append-nil (dotted_behind first)) ∙ append_assoc (step_text first) (dot ∷ []) (step_text step))
+    sym (ap (λ t. t ++ step_text step) (append-nil (dotted_behind first)) ∙ append_assoc (step_text first) (path_dot ∷ []) (step_text step))
 path_behind (first ∷ next ∷ path) step =
     let rest : List ℕ = flat_map dotted_behind (next ∷ path) in
-    ap (λ t. step_text first ++ (dot ∷ t)) (path_behind (next ∷ path) step)
-    ∙ sym (ap (λ t. t ++ step_text step) (append_assoc (step_text first) (dot ∷ []) rest) ∙ append_assoc (step_text first) (dot ∷ rest) (step_text step))
+    ap (λ t. step_text first ++ (path_dot ∷ t)) (path_behind (next ∷ path) step)
+    ∙ sym (ap (λ t. t ++ step_text step) (append_assoc (step_text first) (path_dot ∷ []) rest) ∙ append_assoc (step_text first) (path_dot ∷ rest) (step_text step))
 
 -- the end of the line of an element, behind the path of its list
 pub element_line : (path : Path) (step : paths.Step) (list why : List ℕ) → list ≡ flat_map dotted_behind path
-    → list ++ (step_text step ++ line_end why) ≡ path_text (path ++ step ∷ []) ++ line_end why
+    → list ++ (step_text step ++ report_line_end why) ≡ path_text (path ++ step ∷ []) ++ report_line_end why
 element_line path step list why is =
-    ap (λ t. t ++ (step_text step ++ line_end why)) is ∙ sym (append_assoc (flat_map dotted_behind path) (step_text step) (line_end why))
-    ∙ ap (λ t. t ++ line_end why) (sym (path_behind path step))
+    ap (λ t. t ++ (step_text step ++ report_line_end why)) is ∙ sym (append_assoc (flat_map dotted_behind path) (step_text step) (report_line_end why))
+    ∙ ap (λ t. t ++ report_line_end why) (sym (path_behind path step))
 
 -- the steps above, and the one at the end
 pub path_written :
@@ -51,12 +51,12 @@ path_written steps above last out before after is b a =
 -- one step more, with a dot behind it
 pub next_above :
     (steps : List StepRef) (i : ℕ) (step : StepRef) (out before middle after : List ℕ) → i < length steps → step ≡ get_or steps i step
-    → before ≡ out ++ flat_map dotted_behind (shown_steps (take i steps)) → middle ≡ before ++ step_text (step_at step) → after ≡ middle ++ dot ∷ []
+    → before ≡ out ++ flat_map dotted_behind (shown_steps (take i steps)) → middle ≡ before ++ step_text (step_at step) → after ≡ middle ++ path_dot ∷ []
     → after ≡ out ++ flat_map dotted_behind (shown_steps (take (i + 1) steps))
 next_above steps i step out before middle after h is b m a =
     let text : List ℕ = step_text (step_at step) in
     let last : step_at (get_or steps i step) ≡ step_at step = ap step_at (sym is) in
-    a ∙ ap (λ t. t ++ dot ∷ []) m ∙ append_assoc before text (dot ∷ []) ∙ ap (λ t. t ++ dotted_behind (step_at step)) b
+    a ∙ ap (λ t. t ++ path_dot ∷ []) m ∙ append_assoc before text (path_dot ∷ []) ∙ ap (λ t. t ++ dotted_behind (step_at step)) b
     ∙ flat_map_more dotted_behind out (shown_steps (take i steps)) (step_at step)
     ∙ ap (λ p. out ++ flat_map dotted_behind p) (ap (λ s. shown_steps (take i steps) ++ s ∷ []) (sym last) ∙ sym (map_more step_at steps i step h))
 

@@ -9,49 +9,49 @@ use Rattle.cue_lattice.specs.Path.{label, index, Path}
 use Rattle.cue_row.specs.declared.parts.RowParts.{RowParts as Row}
 use Rattle.cue_table.specs.StepsOfCode.{step_at}
 use Rattle.cue_table.specs.declared.step_ref.StepRef.{StepRef}
-use Rattle.cue_table.specs.Spans.{Span, spanned, spread}
-use Rattle.cue_table.specs.Tree.{Tree, node, Children, none, child, Rest, no_rest, onward, row_of, below, rest_of, rest_tree, fixed_of, children_of}
+use Rattle.cue_table.specs.Spans.{Span, branches_of_span, branches_of_spans}
+use Rattle.cue_table.specs.Tree.{Tree, node, Children, none, child, Rest, no_rest, onward, row_of, below, rest_below, rest_at, fixed_of, children_of}
 use Rattle.cue_table.specs.Size.{tree_size, children_size}
 use Rattle.cue_table.specs.Inner.Walks.{first_child}
 use Rattle.cue_table.proofs.Spanned.{left_size}
 use Rattle.cue_report.specs.declared.conflict.Conflict.{Conflict}
-use Rattle.cue_report.specs.Inner.Search.{under, told_under, only_if, has_no_value, conflict_here, has_level, is_demanded, is_refused, conflicts_in, conflicts_below, conflicts_onward, each_index, least_at, rest_from}
-use Rattle.cue_report.specs.Telling.{Tally, Grows}
-use Rattle.cue_report.specs.Inner.Telling.{Starts}
+use Rattle.cue_report.specs.Inner.Search.{conflict_under, conflicts_under, only_if, has_no_value, conflict_here, has_level, is_demanded, is_refused, conflicts_in, conflicts_below, conflicts_onward, each_index, least_at, rest_from}
+use Rattle.cue_report.specs.Telling.{Tally, WritesPieces}
+use Rattle.cue_report.specs.Inner.Telling.{WritesPiecesPrefix}
 use Rattle.cue_report.proofs.Runs.{span_first}
 use Rattle.cue_report.proofs.Telling.{grows_then, starts_now, starts_later}
 
 -- what is seen from a place is seen from the place above
-pub under_further : (path : Path) (step : paths.Step) (xs : List Conflict) → map (under (path ++ step ∷ [])) xs ≡ map (under path) (map (under (step ∷ [])) xs)
+pub under_further : (path : Path) (step : paths.Step) (xs : List Conflict) → map (conflict_under (path ++ step ∷ [])) xs ≡ map (conflict_under path) (map (conflict_under (step ∷ [])) xs)
 under_further path step [] = refl
 under_further path step (x ∷ xs) =
     let e : (path ++ step ∷ []) ++ x.path ≡ path ++ step ∷ x.path = append_assoc path (step ∷ []) x.path in
-    let first : under (path ++ step ∷ []) x ≡ under path (under (step ∷ []) x) = ap (λ (p : Path). record x { path = p }) e in
-    ap (λ y. y ∷ map (under (path ++ step ∷ [])) xs) first ∙ ap (λ ys. under path (under (step ∷ []) x) ∷ ys) (under_further path step xs)
+    let first : conflict_under (path ++ step ∷ []) x ≡ conflict_under path (conflict_under (step ∷ []) x) = ap (λ (p : Path). record x { path = p }) e in
+    ap (λ y. y ∷ map (conflict_under (path ++ step ∷ [])) xs) first ∙ ap (λ ys. conflict_under path (conflict_under (step ∷ []) x) ∷ ys) (under_further path step xs)
 
 -- what is told of some and of others
-told_append : {X : Type 0} (piece : Conflict → List X) (path : Path) (xs ys : List Conflict) → told_under piece path (xs ++ ys) ≡ told_under piece path xs ++ told_under piece path ys
-told_append piece path xs ys = ap (flat_map piece) (map-append (under path) xs ys) ∙ flat_map-append piece (map (under path) xs) (map (under path) ys)
+told_append : {X : Type 0} (piece : Conflict → List X) (path : Path) (xs ys : List Conflict) → conflicts_under piece path (xs ++ ys) ≡ conflicts_under piece path xs ++ conflicts_under piece path ys
+told_append piece path xs ys = ap (flat_map piece) (map-append (conflict_under path) xs ys) ∙ flat_map-append piece (map (conflict_under path) xs) (map (conflict_under path) ys)
 
 -- what is told of some, and then of others
-pub found_more : {X : Type 0} (piece : Conflict → List X) (path : Path) (u v w : Tally X) (xs ys : List Conflict) → Grows u v (told_under piece path xs) → Grows v w (told_under piece path ys)
-    → Grows u w (told_under piece path (xs ++ ys))
-found_more piece path u v w xs ys g h = subst (Grows u w) (sym (told_append piece path xs ys)) (grows_then u v w (told_under piece path xs) (told_under piece path ys) g h)
+pub found_more : {X : Type 0} (piece : Conflict → List X) (path : Path) (u v w : Tally X) (xs ys : List Conflict) → WritesPieces u v (conflicts_under piece path xs) → WritesPieces v w (conflicts_under piece path ys)
+    → WritesPieces u w (conflicts_under piece path (xs ++ ys))
+found_more piece path u v w xs ys g h = subst (WritesPieces u w) (sym (told_append piece path xs ys)) (grows_then u v w (conflicts_under piece path xs) (conflicts_under piece path ys) g h)
 
 -- or of some in front of the others
-pub found_later : {X : Type 0} (piece : Conflict → List X) (path : Path) (u v w : Tally X) (xs ys : List Conflict) → Grows u v (told_under piece path xs) → Starts v w (told_under piece path ys)
-    → Starts u w (told_under piece path (xs ++ ys))
-found_later piece path u v w xs ys g h = subst (Starts u w) (sym (told_append piece path xs ys)) (starts_later u v w (told_under piece path xs) (told_under piece path ys) g h)
+pub found_later : {X : Type 0} (piece : Conflict → List X) (path : Path) (u v w : Tally X) (xs ys : List Conflict) → WritesPieces u v (conflicts_under piece path xs) → WritesPiecesPrefix v w (conflicts_under piece path ys)
+    → WritesPiecesPrefix u w (conflicts_under piece path (xs ++ ys))
+found_later piece path u v w xs ys g h = subst (WritesPiecesPrefix u w) (sym (told_append piece path xs ys)) (starts_later u v w (conflicts_under piece path xs) (conflicts_under piece path ys) g h)
 
-pub found_now : {X : Type 0} (piece : Conflict → List X) (path : Path) (u v : Tally X) (xs ys : List Conflict) → Starts u v (told_under piece path xs) → Starts u v (told_under piece path (xs ++ ys))
-found_now piece path u v xs ys h = subst (Starts u v) (sym (told_append piece path xs ys)) (starts_now u v (told_under piece path xs) (told_under piece path ys) h)
+pub found_now : {X : Type 0} (piece : Conflict → List X) (path : Path) (u v : Tally X) (xs ys : List Conflict) → WritesPiecesPrefix u v (conflicts_under piece path xs) → WritesPiecesPrefix u v (conflicts_under piece path (xs ++ ys))
+found_now piece path u v xs ys h = subst (WritesPiecesPrefix u v) (sym (told_append piece path xs ys)) (starts_now u v (conflicts_under piece path xs) (conflicts_under piece path ys) h)
 
 -- Of the branches of a place, some are left to be looked at.
 pub record IsWalking {X : Type 0} (piece : Conflict → List X) (row : Option Row) (all rest : Children Row) (before after : Tally X) (steps now : List StepRef) : Type 0 where
   pub same : now ≡ steps
   pub done : List Conflict
   pub split : conflicts_below row all ≡ done ++ conflicts_below row rest
-  pub told : Grows before after (told_under piece (map step_at steps) done)
+  pub told : WritesPieces before after (conflicts_under piece (map step_at steps) done)
   pub small : children_size rest ≤ children_size all
 
 -- the last step is taken back
@@ -67,22 +67,22 @@ pushed_on held steps pushed x p h = ap (map step_at) p ∙ map_push step_at held
 
 -- the next branches that are kept as one, and those behind them
 next_span : (row : Option Row) (rest left : List (Span × Tree Row)) (span : Span) (tree : Tree Row) → rest ≡ (span, tree) ∷ left
-    → conflicts_below row (spread rest) ≡ conflicts_below row (spanned span tree none) ++ conflicts_below row (spread left)
-next_span row rest left span tree e = ap (λ spans. conflicts_below row (spread spans)) e ∙ span_first row span tree (spread left)
+    → conflicts_below row (branches_of_spans rest) ≡ conflicts_below row (branches_of_span span tree none) ++ conflicts_below row (branches_of_spans left)
+next_span row rest left span tree e = ap (λ spans. conflicts_below row (branches_of_spans spans)) e ∙ span_first row span tree (branches_of_spans left)
 
 -- they were looked at
 pub walked_span :
     {X : Type 0} (piece : Conflict → List X) (row : Option Row) (all : Children Row) (rest left : List (Span × Tree Row)) (span : Span) (tree : Tree Row) (before after after' : Tally X) (steps now now' : List StepRef)
-    → IsWalking piece row all (spread rest) before after steps now → rest ≡ (span, tree) ∷ left
-    → Grows after after' (told_under piece (map step_at now) (conflicts_below row (spanned span tree none))) → now' ≡ now
-    → IsWalking piece row all (spread left) before after' steps now'
+    → IsWalking piece row all (branches_of_spans rest) before after steps now → rest ≡ (span, tree) ∷ left
+    → WritesPieces after after' (conflicts_under piece (map step_at now) (conflicts_below row (branches_of_span span tree none))) → now' ≡ now
+    → IsWalking piece row all (branches_of_spans left) before after' steps now'
 walked_span piece row all rest left span tree before after after' steps now now' w e a n =
-    let these : List Conflict = conflicts_below row (spanned span tree none) in
+    let these : List Conflict = conflicts_below row (branches_of_span span tree none) in
     record {
       same = n ∙ w.same;
       done = w.done ++ these;
-      split = w.split ∙ ap (λ xs. w.done ++ xs) (next_span row rest left span tree e) ∙ sym (append_assoc w.done these (conflicts_below row (spread left)));
-      told = found_more piece (map step_at steps) before after after' w.done these w.told (subst (λ held. Grows after after' (told_under piece (map step_at held) these)) w.same a);
+      split = w.split ∙ ap (λ xs. w.done ++ xs) (next_span row rest left span tree e) ∙ sym (append_assoc w.done these (conflicts_below row (branches_of_spans left)));
+      told = found_more piece (map step_at steps) before after after' w.done these w.told (subst (λ held. WritesPieces after after' (conflicts_under piece (map step_at held) these)) w.same a);
       small = let size = left_size span tree rest left e in omega (arith, w.small, size);
     }
 
@@ -90,22 +90,22 @@ walked_span piece row all rest left span tree before after after' steps now now'
 pub field_is :
     {X : Type 0} (piece : Conflict → List X) (row : Option Row) (step : paths.Step) (tree : Tree Row) (steps pushed : List StepRef) (x : StepRef)
     → is_demanded row step (row_of tree) ≡ true → step_at x ≡ step → pushed ≡ steps ++ x ∷ []
-    → told_under piece (map step_at pushed) (conflicts_in (is_refused row step) tree) ≡ told_under piece (map step_at steps) (conflicts_below row (child step tree none))
+    → conflicts_under piece (map step_at pushed) (conflicts_in (is_refused row step) tree) ≡ conflicts_under piece (map step_at steps) (conflicts_below row (child step tree none))
 field_is piece row step tree steps pushed x d s p =
     let path : Path = map step_at steps in
     let inner : List Conflict = conflicts_in (is_refused row step) tree in
-    let lifted : List Conflict = map (under (step ∷ [])) inner in
-    ap (λ q. told_under piece q inner) (pushed_on steps steps pushed x p refl ∙ ap (λ z. path ++ z ∷ []) s)
-    ∙ ap (flat_map piece) (under_further path step inner) ∙ ap (told_under piece path) (sym (append-nil lifted))
-    ∙ ap (λ b. told_under piece path (only_if b lifted ++ [])) (sym d)
+    let lifted : List Conflict = map (conflict_under (step ∷ [])) inner in
+    ap (λ q. conflicts_under piece q inner) (pushed_on steps steps pushed x p refl ∙ ap (λ z. path ++ z ∷ []) s)
+    ∙ ap (flat_map piece) (under_further path step inner) ∙ ap (conflicts_under piece path) (sym (append-nil lifted))
+    ∙ ap (λ b. conflicts_under piece path (only_if b lifted ++ [])) (sym d)
 
 -- nothing is told of a field that is not demanded
 pub unasked_is : (row : Option Row) (step : paths.Step) (tree : Tree Row) → is_demanded row step (row_of tree) ≡ false → conflicts_below row (child step tree none) ≡ []
-unasked_is row step tree d = ap (λ b. only_if b (map (under (step ∷ [])) (conflicts_in (is_refused row step) tree)) ++ []) d
+unasked_is row step tree d = ap (λ b. only_if b (map (conflict_under (step ∷ [])) (conflicts_in (is_refused row step) tree)) ++ []) d
 
 -- each branch that is looked at is smaller than the place
 pub span_smaller :
-    (tree : Tree Row) (rest left : List (Span × Tree Row)) (span : Span) (inner : Tree Row) → children_size (spread rest) ≤ children_size (below tree)
+    (tree : Tree Row) (rest left : List (Span × Tree Row)) (span : Span) (inner : Tree Row) → children_size (branches_of_spans rest) ≤ children_size (below tree)
     → rest ≡ (span, inner) ∷ left → tree_size inner < tree_size tree
 span_smaller (node row children others) rest left span inner s e = let size = left_size span inner rest left e in omega (arith, s, size)
 
@@ -124,89 +124,89 @@ none_left (child step tree rest) e = cc
 -- all branches were looked at, and the rest
 module _
     {X : Type 0} (piece : Conflict → List X) (row : Option Row) (children : Children Row) (others : Rest Row) (not_allowed : Bool) (rest : List (Span × Tree Row)) (start before middle after : Tally X)
-    (steps now : List StepRef) (w : IsWalking piece row children (spread rest) before middle steps now)
-    (here : Grows start before (told_under piece (map step_at steps) (conflict_here (has_no_value row) not_allowed))) where
+    (steps now : List StepRef) (w : IsWalking piece row children (branches_of_spans rest) before middle steps now)
+    (here : WritesPieces start before (conflicts_under piece (map step_at steps) (conflict_here (has_no_value row) not_allowed))) where
   -- from here on, with others in front of them
   abbrev from_here : List Conflict → List Conflict
   from_here xs = conflict_here (has_no_value row) not_allowed ++ (xs ++ conflicts_onward row others)
 
-  behind : (xs : List Conflict) → conflicts_below row children ≡ xs → Starts before after (told_under piece (map step_at steps) (xs ++ conflicts_onward row others))
-      → Starts start after (told_under piece (map step_at steps) (conflicts_in not_allowed (node row children others)))
+  behind : (xs : List Conflict) → conflicts_below row children ≡ xs → WritesPiecesPrefix before after (conflicts_under piece (map step_at steps) (xs ++ conflicts_onward row others))
+      → WritesPiecesPrefix start after (conflicts_under piece (map step_at steps) (conflicts_in not_allowed (node row children others)))
   behind xs e h =
-      subst (λ ys. Starts start after (told_under piece (map step_at steps) (from_here ys))) (sym e)
+      subst (λ ys. WritesPiecesPrefix start after (conflicts_under piece (map step_at steps) (from_here ys))) (sym e)
       (found_later piece (map step_at steps) start before after (conflict_here (has_no_value row) not_allowed) (xs ++ conflicts_onward row others) here h)
 
   all_done : rest ≡ [] → conflicts_below row children ≡ w.done
-  all_done e = w.split ∙ ap (λ spans. w.done ++ conflicts_below row (spread spans)) e ∙ append-nil w.done
+  all_done e = w.split ∙ ap (λ spans. w.done ++ conflicts_below row (branches_of_spans spans)) e ∙ append-nil w.done
 
-  all_walked : rest ≡ [] → Grows middle after (told_under piece (map step_at now) (conflicts_onward row others))
-      → Grows start after (told_under piece (map step_at steps) (conflicts_in not_allowed (node row children others)))
+  all_walked : rest ≡ [] → WritesPieces middle after (conflicts_under piece (map step_at now) (conflicts_onward row others))
+      → WritesPieces start after (conflicts_under piece (map step_at steps) (conflicts_in not_allowed (node row children others)))
   all_walked e a =
-      subst (λ ys. Grows start after (told_under piece (map step_at steps) (from_here ys))) (sym (all_done e))
+      subst (λ ys. WritesPieces start after (conflicts_under piece (map step_at steps) (from_here ys))) (sym (all_done e))
       (found_more piece (map step_at steps) start before after (conflict_here (has_no_value row) not_allowed) (w.done ++ conflicts_onward row others) here
       (found_more piece (map step_at steps) before middle after w.done (conflicts_onward row others) w.told
-      (subst (λ held. Grows middle after (told_under piece (map step_at held) (conflicts_onward row others))) w.same a)))
+      (subst (λ held. WritesPieces middle after (conflicts_under piece (map step_at held) (conflicts_onward row others))) w.same a)))
 
-  rest_begun : rest ≡ [] → Starts middle after (told_under piece (map step_at now) (conflicts_onward row others))
-      → Starts start after (told_under piece (map step_at steps) (conflicts_in not_allowed (node row children others)))
+  rest_begun : rest ≡ [] → WritesPiecesPrefix middle after (conflicts_under piece (map step_at now) (conflicts_onward row others))
+      → WritesPiecesPrefix start after (conflicts_under piece (map step_at steps) (conflicts_in not_allowed (node row children others)))
   rest_begun e a =
       behind w.done (all_done e)
       (found_later piece (map step_at steps) before middle after w.done (conflicts_onward row others) w.told
-      (subst (λ held. Starts middle after (told_under piece (map step_at held) (conflicts_onward row others))) w.same a))
+      (subst (λ held. WritesPiecesPrefix middle after (conflicts_under piece (map step_at held) (conflicts_onward row others))) w.same a))
 
   span_begun : (left : List (Span × Tree Row)) (span : Span) (inner : Tree Row) → rest ≡ (span, inner) ∷ left
-      → Starts middle after (told_under piece (map step_at now) (conflicts_below row (spanned span inner none)))
-      → Starts start after (told_under piece (map step_at steps) (conflicts_in not_allowed (node row children others)))
+      → WritesPiecesPrefix middle after (conflicts_under piece (map step_at now) (conflicts_below row (branches_of_span span inner none)))
+      → WritesPiecesPrefix start after (conflicts_under piece (map step_at steps) (conflicts_in not_allowed (node row children others)))
   span_begun left span inner e a =
       let path : Path = map step_at steps in
-      let these : List Conflict = conflicts_below row (spanned span inner none) in
-      let later : List Conflict = conflicts_below row (spread left) in
+      let these : List Conflict = conflicts_below row (branches_of_span span inner none) in
+      let later : List Conflict = conflicts_below row (branches_of_spans left) in
       behind (w.done ++ (these ++ later)) (w.split ∙ ap (λ xs. w.done ++ xs) (next_span row rest left span inner e))
       (found_now piece path before after (w.done ++ (these ++ later)) (conflicts_onward row others)
       (found_later piece path before middle after w.done (these ++ later) w.told
-      (found_now piece path middle after these later (subst (λ held. Starts middle after (told_under piece (map step_at held) these)) w.same a))))
+      (found_now piece path middle after these later (subst (λ held. WritesPiecesPrefix middle after (conflicts_under piece (map step_at held) these)) w.same a))))
 
 pub walked :
     {X : Type 0} (piece : Conflict → List X) (tree : Tree Row) (rest : List (Span × Tree Row)) (not_allowed : Bool) (start before middle after : Tally X) (steps now : List StepRef)
-    → IsWalking piece (row_of tree) (below tree) (spread rest) before middle steps now → rest ≡ []
-    → Grows start before (told_under piece (map step_at steps) (conflict_here (has_no_value (row_of tree)) not_allowed))
-    → Grows middle after (told_under piece (map step_at now) (conflicts_onward (row_of tree) (rest_of tree)))
-    → Grows start after (told_under piece (map step_at steps) (conflicts_in not_allowed tree))
+    → IsWalking piece (row_of tree) (below tree) (branches_of_spans rest) before middle steps now → rest ≡ []
+    → WritesPieces start before (conflicts_under piece (map step_at steps) (conflict_here (has_no_value (row_of tree)) not_allowed))
+    → WritesPieces middle after (conflicts_under piece (map step_at now) (conflicts_onward (row_of tree) (rest_below tree)))
+    → WritesPieces start after (conflicts_under piece (map step_at steps) (conflicts_in not_allowed tree))
 walked piece (node row children others) rest not_allowed start before middle after steps now w e b a =
     all_walked piece row children others not_allowed rest start before middle after steps now w b e a
 
 -- the place itself was begun, or one of its branches, or its rest
 pub begun_here :
     {X : Type 0} (piece : Conflict → List X) (tree : Tree Row) (not_allowed : Bool) (start after : Tally X) (path : Path)
-    → Starts start after (told_under piece path (conflict_here (has_no_value (row_of tree)) not_allowed)) → Starts start after (told_under piece path (conflicts_in not_allowed tree))
+    → WritesPiecesPrefix start after (conflicts_under piece path (conflict_here (has_no_value (row_of tree)) not_allowed)) → WritesPiecesPrefix start after (conflicts_under piece path (conflicts_in not_allowed tree))
 begun_here piece (node row children others) not_allowed start after path h =
     found_now piece path start after (conflict_here (has_no_value row) not_allowed) (conflicts_below row children ++ conflicts_onward row others) h
 
 pub begun_span :
     {X : Type 0} (piece : Conflict → List X) (tree : Tree Row) (rest left : List (Span × Tree Row)) (span : Span) (inner : Tree Row) (not_allowed : Bool) (start before middle after : Tally X)
-    (steps now : List StepRef) → IsWalking piece (row_of tree) (below tree) (spread rest) before middle steps now → rest ≡ (span, inner) ∷ left
-    → Grows start before (told_under piece (map step_at steps) (conflict_here (has_no_value (row_of tree)) not_allowed))
-    → Starts middle after (told_under piece (map step_at now) (conflicts_below (row_of tree) (spanned span inner none)))
-    → Starts start after (told_under piece (map step_at steps) (conflicts_in not_allowed tree))
+    (steps now : List StepRef) → IsWalking piece (row_of tree) (below tree) (branches_of_spans rest) before middle steps now → rest ≡ (span, inner) ∷ left
+    → WritesPieces start before (conflicts_under piece (map step_at steps) (conflict_here (has_no_value (row_of tree)) not_allowed))
+    → WritesPiecesPrefix middle after (conflicts_under piece (map step_at now) (conflicts_below (row_of tree) (branches_of_span span inner none)))
+    → WritesPiecesPrefix start after (conflicts_under piece (map step_at steps) (conflicts_in not_allowed tree))
 begun_span piece (node row children others) rest left span inner not_allowed start before middle after steps now w e b a =
     span_begun piece row children others not_allowed rest start before middle after steps now w b left span inner e a
 
 pub begun_rest :
     {X : Type 0} (piece : Conflict → List X) (tree : Tree Row) (rest : List (Span × Tree Row)) (not_allowed : Bool) (start before middle after : Tally X) (steps now : List StepRef)
-    → IsWalking piece (row_of tree) (below tree) (spread rest) before middle steps now → rest ≡ []
-    → Grows start before (told_under piece (map step_at steps) (conflict_here (has_no_value (row_of tree)) not_allowed))
-    → Starts middle after (told_under piece (map step_at now) (conflicts_onward (row_of tree) (rest_of tree)))
-    → Starts start after (told_under piece (map step_at steps) (conflicts_in not_allowed tree))
+    → IsWalking piece (row_of tree) (below tree) (branches_of_spans rest) before middle steps now → rest ≡ []
+    → WritesPieces start before (conflicts_under piece (map step_at steps) (conflict_here (has_no_value (row_of tree)) not_allowed))
+    → WritesPiecesPrefix middle after (conflicts_under piece (map step_at now) (conflicts_onward (row_of tree) (rest_below tree)))
+    → WritesPiecesPrefix start after (conflicts_under piece (map step_at steps) (conflicts_in not_allowed tree))
 begun_rest piece (node row children others) rest not_allowed start before middle after steps now w e b a =
     rest_begun piece row children others not_allowed rest start before middle after steps now w b e a
 
 -- ---- the rest
 -- one more element
-each_next : (first number : ℕ) (found : List Conflict) → first ≤ number → each_index first (number + 1 - first) found ≡ each_index first (number - first) found ++ map (under (index number ∷ [])) found
+each_next : (first number : ℕ) (found : List Conflict) → first ≤ number → each_index first (number + 1 - first) found ≡ each_index first (number - first) found ++ map (conflict_under (index number ∷ [])) found
 each_next first number found l =
     let count : number + 1 - first ≡ suc (number - first) = omega arith in
     let last : first + (number - first) ≡ number = omega arith in
-    ap (λ k. each_index first k found) count ∙ ap (λ k. each_index first (number - first) found ++ map (under (index k ∷ [])) found) last
+    ap (λ k. each_index first k found) count ∙ ap (λ k. each_index first (number - first) found ++ map (conflict_under (index k ∷ [])) found) last
 
 -- and those behind some
 each_split : (first n m : ℕ) (found : List Conflict) → (more : List Conflict) × (each_index first (n + m) found ≡ each_index first n found ++ more)
@@ -215,7 +215,7 @@ each_split first n zero found =
     ([], ap (λ k. each_index first k found) none ∙ sym (append-nil (each_index first n found)))
 each_split first n (suc m) found =
     let before = each_split first n m found in
-    let last : List Conflict = map (under (index (first + (n + m)) ∷ [])) found in
+    let last : List Conflict = map (conflict_under (index (first + (n + m)) ∷ [])) found in
     let count : n + suc m ≡ suc (n + m) = omega arith in (
       before.0 ++ last,
       ap (λ k. each_index first k found) count ∙ ap (λ xs. xs ++ last) before.1 ∙ append_assoc (each_index first n found) before.0 last,
@@ -223,35 +223,35 @@ each_split first n (suc m) found =
 
 pub each_begun :
     {X : Type 0} (piece : Conflict → List X) (first some all : ℕ) (found : List Conflict) (start after : Tally X) (path : Path) → some ≤ all
-    → Starts start after (told_under piece path (each_index first some found)) → Starts start after (told_under piece path (each_index first all found))
+    → WritesPiecesPrefix start after (conflicts_under piece path (each_index first some found)) → WritesPiecesPrefix start after (conflicts_under piece path (each_index first all found))
 each_begun piece first some all found start after path l h =
     let split = each_split first some (all - some) found in
     let count : some + (all - some) ≡ all = omega arith in
-    subst (λ xs. Starts start after (told_under piece path xs)) (sym split.1 ∙ ap (λ k. each_index first k found) count)
+    subst (λ xs. WritesPiecesPrefix start after (conflicts_under piece path xs)) (sym split.1 ∙ ap (λ k. each_index first k found) count)
     (found_now piece path start after (each_index first some found) split.0 h)
 
 -- what is told at an element is told of it
 element_is : {X : Type 0} (piece : Conflict → List X) (path pushed : Path) (number : ℕ) (found : List Conflict) → pushed ≡ path ++ index number ∷ []
-    → told_under piece pushed found ≡ told_under piece path (map (under (index number ∷ [])) found)
-element_is piece path pushed number found p = ap (λ q. told_under piece q found) p ∙ ap (flat_map piece) (under_further path (index number) found)
+    → conflicts_under piece pushed found ≡ conflicts_under piece path (map (conflict_under (index number ∷ [])) found)
+element_is piece path pushed number found p = ap (λ q. conflicts_under piece q found) p ∙ ap (flat_map piece) (under_further path (index number) found)
 
 -- one more element was looked at, or was begun
 pub walked_element :
     {X : Type 0} (piece : Conflict → List X) (first number : ℕ) (found : List Conflict) (start now after : Tally X) (path pushed : Path) → first ≤ number
-    → Grows start now (told_under piece path (each_index first (number - first) found)) → pushed ≡ path ++ index number ∷ [] → Grows now after (told_under piece pushed found)
-    → Grows start after (told_under piece path (each_index first (number + 1 - first) found))
+    → WritesPieces start now (conflicts_under piece path (each_index first (number - first) found)) → pushed ≡ path ++ index number ∷ [] → WritesPieces now after (conflicts_under piece pushed found)
+    → WritesPieces start after (conflicts_under piece path (each_index first (number + 1 - first) found))
 walked_element piece first number found start now after path pushed l n p a =
-    subst (λ xs. Grows start after (told_under piece path xs)) (sym (each_next first number found l))
-    (found_more piece path start now after (each_index first (number - first) found) (map (under (index number ∷ [])) found) n (subst (Grows now after) (element_is piece path pushed number found p) a))
+    subst (λ xs. WritesPieces start after (conflicts_under piece path xs)) (sym (each_next first number found l))
+    (found_more piece path start now after (each_index first (number - first) found) (map (conflict_under (index number ∷ [])) found) n (subst (WritesPieces now after) (element_is piece path pushed number found p) a))
 
 pub begun_element :
     {X : Type 0} (piece : Conflict → List X) (first number end : ℕ) (found : List Conflict) (start now after : Tally X) (path pushed : Path) → first ≤ number → number < end
-    → Grows start now (told_under piece path (each_index first (number - first) found)) → pushed ≡ path ++ index number ∷ [] → Starts now after (told_under piece pushed found)
-    → Starts start after (told_under piece path (each_index first (end - first) found))
+    → WritesPieces start now (conflicts_under piece path (each_index first (number - first) found)) → pushed ≡ path ++ index number ∷ [] → WritesPiecesPrefix now after (conflicts_under piece pushed found)
+    → WritesPiecesPrefix start after (conflicts_under piece path (each_index first (end - first) found))
 begun_element piece first number end found start now after path pushed l m n p a =
     each_begun piece first (number + 1 - first) (end - first) found start after path (omega arith)
-    (subst (λ xs. Starts start after (told_under piece path xs)) (sym (each_next first number found l))
-    (found_later piece path start now after (each_index first (number - first) found) (map (under (index number ∷ [])) found) n (subst (Starts now after) (element_is piece path pushed number found p) a)))
+    (subst (λ xs. WritesPiecesPrefix start after (conflicts_under piece path xs)) (sym (each_next first number found l))
+    (found_later piece path start now after (each_index first (number - first) found) (map (conflict_under (index number ∷ [])) found) n (subst (WritesPiecesPrefix now after) (element_is piece path pushed number found p) a)))
 
 -- where the elements begin that are looked at
 pub from_least : (n least : ℕ) (found : List Conflict) → each_index (min n least) (least - min n least) found ≡ each_index n (least - n) found
@@ -265,25 +265,25 @@ from_least n least found = elim (cases_lt least n) [
 ]
 
 -- the rest is smaller than the place
-pub rest_smaller : (tree rest : Tree Row) → Some rest ≡ rest_tree (rest_of tree) → tree_size rest < tree_size tree
+pub rest_smaller : (tree rest : Tree Row) → Some rest ≡ rest_at (rest_below tree) → tree_size rest < tree_size tree
 rest_smaller (node row children no_rest) rest e = cc
 rest_smaller (node row children (onward n inner)) rest e =
     let same : rest ≡ inner = cc in
     let size : tree_size rest ≡ tree_size inner = ap tree_size same in
     omega arith
 
-pub is_onward : (tree rest : Tree Row) → Some rest ≡ rest_tree (rest_of tree) → rest_of tree ≡ onward (fixed_of tree) rest
+pub is_onward : (tree rest : Tree Row) → Some rest ≡ rest_at (rest_below tree) → rest_below tree ≡ onward (fixed_of tree) rest
 is_onward (node row children no_rest) rest e = cc
 is_onward (node row children (onward n inner)) rest e = let same : inner ≡ rest = cc in ap (onward n) same
 
-pub is_ended : (tree : Tree Row) → rest_tree (rest_of tree) ≡ None → rest_of tree ≡ no_rest
+pub is_ended : (tree : Tree Row) → rest_at (rest_below tree) ≡ None → rest_below tree ≡ no_rest
 is_ended (node row children no_rest) e = refl
 is_ended (node row children (onward n inner)) e = cc
 
 -- the elements that are the rest
 pub all_elements :
-    (tree rest : Tree Row) (first least : ℕ) → Some rest ≡ rest_tree (rest_of tree) → least ≡ least_at (row_of tree) → first ≡ rest_from (rest_of tree) least
-    → each_index first (least - first) (conflicts_in false rest) ≡ conflicts_onward (row_of tree) (rest_of tree)
+    (tree rest : Tree Row) (first least : ℕ) → Some rest ≡ rest_at (rest_below tree) → least ≡ least_at (row_of tree) → first ≡ rest_from (rest_below tree) least
+    → each_index first (least - first) (conflicts_in false rest) ≡ conflicts_onward (row_of tree) (rest_below tree)
 all_elements (node row children no_rest) rest first least r m f = cc
 all_elements (node row children (onward n inner)) rest first least r m f =
     let same : rest ≡ inner = cc in

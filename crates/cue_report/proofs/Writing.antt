@@ -6,7 +6,7 @@ use Rattle.json.specs.Token.{Token}
 use Rattle.json.specs.Tree.{json_tokens, items_tokens, members_tokens}
 use Rattle.serde_json.specs.Data.{Data, null, array, object, Items, no_items, item, Members, no_members, member}
 use Rattle.serde_json.specs.Written.{outline, items_outline, members_outline}
-use Rattle.cue_device.specs.Texts.{Begins}
+use Rattle.cue_device.specs.Texts.{WritesPrefix}
 use Rattle.cue_lattice.specs.Path as paths
 use Rattle.cue_lattice.specs.Path.{label, index}
 use Rattle.cue_row.specs.declared.parts.RowParts.{RowParts as Row}
@@ -15,10 +15,10 @@ use Rattle.serde_json.specs.Data.{put}
 use Rattle.serde_json.specs.Written.{compact_text}
 use Rattle.serde_json.proofs.Texts.{print-outline}
 use Rattle.cue_report.specs.Inner.GapSearch.{AtPlace}
-use Rattle.cue_report.specs.Gaps.{IsFree}
+use Rattle.cue_report.specs.Gaps.{IsFreeRow}
 use Rattle.cue_report.specs.Inner.Search.{is_demanded, least_at}
-use Rattle.cue_report.specs.Inner.Writing.{Adds, AddsDocument, AddsElements, AddsMembers, AddsScalar}
-use Rattle.cue_report.specs.Stream.{Flow, Streams, Breaks}
+use Rattle.cue_report.specs.Inner.Writing.{WritesJson, WritesDocument, WritesElements, WritesMembers, WritesScalar}
+use Rattle.cue_report.specs.Stream.{Flow, WritesTokens, WritesTokensPrefix}
 use Rattle.cue_report.proofs.Descent.{Told}
 use Rattle.cue_report.proofs.DocumentMembers.{with_member, IsGathered, taken_label, put_behind}
 use Rattle.cue_report.proofs.Documents.{with_item, IsCounted, counted_next, counted_null, object_shape, array_shape, only_scalars}
@@ -58,28 +58,28 @@ more_members (member first here members) key json =
 
 -- what is told of a list and of an object so far
 abbrev pub HasItems : Flow → Flow → Items → Type 0
-HasItems old now items = Streams old now (Token.begin_array ∷ open_items items)
+HasItems old now items = WritesTokens old now (Token.begin_array ∷ open_items items)
 
 abbrev pub HasMembers : Flow → Flow → Members → Type 0
-HasMembers old now members = Streams old now (Token.begin_object ∷ open_members members)
+HasMembers old now members = WritesTokens old now (Token.begin_object ∷ open_members members)
 
-pub adds_item : (old now after : Flow) (items : Items) (json : Data) → HasItems old now items → Adds now after json → HasItems old after (with_item items json)
+pub adds_item : (old now after : Flow) (items : Items) (json : Data) → HasItems old now items → WritesJson now after json → HasItems old after (with_item items json)
 adds_item old now after items json h a =
-    subst (λ ts. Streams old after (Token.begin_array ∷ ts)) (sym (more_items items json)) (streams_then old now after (Token.begin_array ∷ open_items items) (json_tokens (outline json)) h a)
+    subst (λ ts. WritesTokens old after (Token.begin_array ∷ ts)) (sym (more_items items json)) (streams_then old now after (Token.begin_array ∷ open_items items) (json_tokens (outline json)) h a)
 
-pub adds_member : (old now keyed after : Flow) (members : Members) (key : List ℕ) (json : Data) → HasMembers old now members → Streams now keyed (Token.key key ∷ []) → Adds keyed after json
+pub adds_member : (old now keyed after : Flow) (members : Members) (key : List ℕ) (json : Data) → HasMembers old now members → WritesTokens now keyed (Token.key key ∷ []) → WritesJson keyed after json
     → HasMembers old after (with_member members key json)
 adds_member old now keyed after members key json h k a =
-    subst (λ ts. Streams old after (Token.begin_object ∷ ts)) (sym (more_members members key json))
+    subst (λ ts. WritesTokens old after (Token.begin_object ∷ ts)) (sym (more_members members key json))
     (streams_then old now after (Token.begin_object ∷ open_members members) (Token.key key ∷ json_tokens (outline json)) h (streams_then now keyed after (Token.key key ∷ []) (json_tokens (outline json)) k a))
 
-pub ends_items : (old now after : Flow) (items : Items) → HasItems old now items → Streams now after (Token.end_array ∷ []) → Adds old after (array items)
+pub ends_items : (old now after : Flow) (items : Items) → HasItems old now items → WritesTokens now after (Token.end_array ∷ []) → WritesJson old after (array items)
 ends_items old now after items h e =
-    subst (λ ts. Streams old after (Token.begin_array ∷ ts)) (sym (closed_items items)) (streams_then old now after (Token.begin_array ∷ open_items items) (Token.end_array ∷ []) h e)
+    subst (λ ts. WritesTokens old after (Token.begin_array ∷ ts)) (sym (closed_items items)) (streams_then old now after (Token.begin_array ∷ open_items items) (Token.end_array ∷ []) h e)
 
-pub ends_members : (old now after : Flow) (members : Members) → HasMembers old now members → Streams now after (Token.end_object ∷ []) → Adds old after (object members)
+pub ends_members : (old now after : Flow) (members : Members) → HasMembers old now members → WritesTokens now after (Token.end_object ∷ []) → WritesJson old after (object members)
 ends_members old now after members h e =
-    subst (λ ts. Streams old after (Token.begin_object ∷ ts)) (sym (closed_members members)) (streams_then old now after (Token.begin_object ∷ open_members members) (Token.end_object ∷ []) h e)
+    subst (λ ts. WritesTokens old after (Token.begin_object ∷ ts)) (sym (closed_members members)) (streams_then old now after (Token.begin_object ∷ open_members members) (Token.end_object ∷ []) h e)
 
 -- ---- the parts of a place
 
@@ -95,16 +95,16 @@ pub on_any : {T E A : Type 0} (r : Result T E) → A → OnErr r A
 on_any (Ok t) a = tt
 on_any (Err e) a = a
 
-pub adds_object : (tree : Tree Row) (row : Row) (old new : Flow) → row_of tree ≡ Some row → row.struct_ok ≡ true → (¬ IsFree (AtPlace (Some row)) [])
-    → AddsMembers (Told tree) old new → AddsDocument (Told tree) old new
+pub adds_object : (tree : Tree Row) (row : Row) (old new : Flow) → row_of tree ≡ Some row → row.struct_ok ≡ true → (¬ IsFreeRow (AtPlace (Some row)) [])
+    → WritesMembers (Told tree) old new → WritesDocument (Told tree) old new
 adds_object tree row old new e s n m = (object m.members, m.adds, (object_shape tree row m.members e s n m.keys_are m.documents, m.no_float))
 
 pub adds_array : (tree : Tree Row) (row : Row) (old new : Flow) → row_of tree ≡ Some row → row.struct_ok ≡ false → row.list_ok ≡ true
-    → AddsElements (Told tree) (least_at (row_of tree)) old new → AddsDocument (Told tree) old new
+    → WritesElements (Told tree) (least_at (row_of tree)) old new → WritesDocument (Told tree) old new
 adds_array tree row old new e s l m = (array m.items, m.adds, (array_shape tree row m.items e s l m.length m.documents, m.no_float))
 
 pub adds_scalar : (tree : Tree Row) (row : Row) (old new : Flow) → row_of tree ≡ Some row → row.struct_ok ≡ false → row.list_ok ≡ false
-    → AddsScalar (AtPlace (Some row)) old new → AddsDocument (Told tree) old new
+    → WritesScalar (AtPlace (Some row)) old new → WritesDocument (Told tree) old new
 adds_scalar tree row old new e s l m = (m.json, m.adds, (only_scalars tree row m.json e s l m.picked, m.no_float))
 
 -- what is written of the elements before a number, and of the members before what is left
@@ -115,7 +115,7 @@ abbrev pub AreMembersSoFar : Tree Row → Children Row → Flow → Flow → Typ
 AreMembersSoFar tree rest old now = (members : Members) × HasMembers old now members × IsGathered tree rest members
 
 pub next_item : (tree inner : Tree Row) (n : ℕ) (old now after : Flow) → AreItemsSoFar tree n old now
-    → step_into tree (index n) ≡ Some inner → n < least_at (row_of tree) → AddsDocument (Told inner) now after → AreItemsSoFar tree (n + 1) old after
+    → step_into tree (index n) ≡ Some inner → n < least_at (row_of tree) → WritesDocument (Told inner) now after → AreItemsSoFar tree (n + 1) old after
 next_item tree inner n old now after so_far f below_end d = (
   with_item so_far.0 d.0,
   adds_item old now after so_far.0 d.0 so_far.1 d.1,
@@ -123,7 +123,7 @@ next_item tree inner n old now after so_far f below_end d = (
 )
 
 pub next_null : (tree : Tree Row) (n : ℕ) (old now after : Flow) → AreItemsSoFar tree n old now
-    → step_into tree (index n) ≡ None → Adds now after null → AreItemsSoFar tree (n + 1) old after
+    → step_into tree (index n) ≡ None → WritesJson now after null → AreItemsSoFar tree (n + 1) old after
 next_null tree n old now after so_far f a = (
   with_item so_far.0 null,
   adds_item old now after so_far.0 null so_far.1 a,
@@ -132,7 +132,7 @@ next_null tree n old now after so_far f a = (
 
 pub next_member : (tree here : Tree Row) (step : paths.Step) (key : List ℕ) (rest rest' : Children Row) (old now keyed after : Flow) → AreMembersSoFar tree rest old now
     → children_of rest ≡ (step, here) ∷ children_of rest' → step ≡ label key → is_demanded (row_of tree) step (row_of here) ≡ true
-    → Streams now keyed (Token.key key ∷ []) → AddsDocument (Told here) keyed after
+    → WritesTokens now keyed (Token.key key ∷ []) → WritesDocument (Told here) keyed after
     → AreMembersSoFar tree rest' old after
 next_member tree here step key rest rest' old now keyed after so_far c s asked k d = (
   put key d.0 so_far.0,
@@ -144,10 +144,10 @@ text_alone : (old : Flow) (json : Data) → old.stream.pending ≡ [] → old.st
 text_alone old json pending owes = (λ i. pending i ++ print_from (owes i) (json_tokens (outline json))) ∙ print-outline json
 
 -- the text of a document that is told alone, and of which nothing is pending
-pub text_put : (old new : Flow) (json : Data) → old.stream.pending ≡ [] → old.stream.owes ≡ false → new.stream.pending ≡ [] → Adds old new json → Appends old.known new.known (compact_text json)
+pub text_put : (old new : Flow) (json : Data) → old.stream.pending ≡ [] → old.stream.owes ≡ false → new.stream.pending ≡ [] → WritesJson old new json → Appends old.known new.known (compact_text json)
 text_put old new json pending owes none a =
     subst (Appends old.known new.known) (sym (append-nil a.put) ∙ ap (λ t. a.put ++ t) (sym none) ∙ sym a.whole ∙ text_alone old json pending owes) a.known
 
 -- so is its text where its front was put
-pub text_begun : (old : Flow) (known : Option (List ℕ)) (json : Data) → old.stream.pending ≡ [] → old.stream.owes ≡ false → Breaks old known (json_tokens (outline json)) → Begins old.known known (compact_text json)
-text_begun old known json pending owes b = subst (Begins old.known known) (text_alone old json pending owes) b
+pub text_begun : (old : Flow) (known : Option (List ℕ)) (json : Data) → old.stream.pending ≡ [] → old.stream.owes ≡ false → WritesTokensPrefix old known (json_tokens (outline json)) → WritesPrefix old.known known (compact_text json)
+text_begun old known json pending owes b = subst (WritesPrefix old.known known) (text_alone old json pending owes) b

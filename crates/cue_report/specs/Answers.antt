@@ -8,13 +8,13 @@ use Rattle.cue_lattice.specs.Question.{length_at_most, length_at_least}
 use Rattle.cue_lattice.specs.Scalar.{IsScalar}
 
 -- the path one step further
-abbrev pub further : Path → Step → Path
-further path step = path ++ step ∷ []
+abbrev pub path_below : Path → Step → Path
+path_below path step = path ++ step ∷ []
 
 -- A step from a place is demanded: that of a label where the level below may not be 0, and that of
 -- an index where no list is as short as it.
 abbrev pub IsStepDemanded : Refusals → Path → Step → Type 0
-IsStepDemanded refuses path (label text) = refuses (further path (label text)) (level_at_most 0)
+IsStepDemanded refuses path (label text) = refuses (path_below path (label text)) (level_at_most 0)
 IsStepDemanded refuses path (index n) = refuses path (length_at_most n)
 
 -- A path is demanded where each of its steps is. So the root is.
@@ -41,5 +41,5 @@ HasNoValue refuses path =
 -- the place above does not allow the label at which the path ends
 abbrev pub IsNotAllowed : Refusals → Path → Type 0
 IsNotAllowed refuses path =
-    (above : Path) × (text : List ℕ) × (path ≡ further above (label text))
+    (above : Path) × (text : List ℕ) × (path ≡ path_below above (label text))
     × refuses above (allows text)

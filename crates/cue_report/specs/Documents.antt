@@ -8,7 +8,7 @@ use Rattle.serde_json.specs.Data as json
 use Rattle.serde_json.specs.Data.{Data, array, object}
 use Rattle.serde_json.specs.Written.{compact_text}
 use Rattle.cue_report.specs.Export.{data_of, IsShape}
-use Rattle.cue_report.specs.Gaps.{IsChosen}
+use Rattle.cue_report.specs.Gaps.{IsChosenScalar}
 use Rattle.cue_report.specs.Picks.{Pick}
 use Rattle.cue_report.specs.declared.outcome.Export.{Export}
 use Rattle.cue_report.specs.declared.outcome.Export.TheVariants.{Json, Conflicts, Incomplete}
@@ -35,7 +35,7 @@ SomeMeets refuses = (d : Document) × IsDocument d × Meets refuses d
 
 -- The JSON tells a document that meets all that is refused, in the shape of an export, where the
 -- scalars are picked in this way.
-pub record Tells (pick : Pick) (refuses : Refusals) (told : Data) : Type 0 where
+pub record IsDocumentOf (pick : Pick) (refuses : Refusals) (told : Data) : Type 0 where
   pub document : Document
   pub is : IsDocument document
   pub meets : Meets refuses document
@@ -48,4 +48,4 @@ abbrev pub IsExactExport : Refusals → Export → Type 0
 IsExactExport refuses (Conflicts found) = ¬ SomeMeets refuses
 IsExactExport refuses (Incomplete gaps) = SomeMeets refuses
 IsExactExport refuses (Json text) =
-    (told : Data) × Tells IsChosen refuses told × (string_bytes text ≡ compact_text told)
+    (told : Data) × IsDocumentOf IsChosenScalar refuses told × (string_bytes text ≡ compact_text told)

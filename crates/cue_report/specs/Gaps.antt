@@ -13,8 +13,8 @@ abbrev pub IsMissing : Refusals → Path → Type 0
 IsMissing refuses path = refuses path (level_at_most 0) × (¬ refuses path (level_at_most 1))
 
 -- the scalar may stand, or is one of the usual ones
-abbrev pub MayStand : Refusals → Path → Scalar → Type 0
-MayStand refuses path scalar = IsScalar scalar × (¬ refuses path (may_be scalar))
+abbrev pub MayScalarStand : Refusals → Path → Scalar → Type 0
+MayScalarStand refuses path scalar = IsScalar scalar × (¬ refuses path (may_be scalar))
 
 abbrev pub IsUsual : Refusals → Path → Scalar → Type 0
 IsUsual refuses path scalar = IsScalar scalar × (¬ refuses path (usual scalar))
@@ -24,14 +24,14 @@ abbrev pub IsOnly : (Scalar → Type 0) → Scalar → Type 0
 IsOnly P scalar = P scalar × ((other : Scalar) → P other → other ≡ scalar)
 
 -- the chosen scalar: the only usual one, or, where none is usual, the only one that may stand
-abbrev pub IsChosen : Refusals → Path → Scalar → Type 0
-IsChosen refuses path scalar =
+abbrev pub IsChosenScalar : Refusals → Path → Scalar → Type 0
+IsChosenScalar refuses path scalar =
     IsOnly (IsUsual refuses path) scalar
-    ⊎ (((other : Scalar) → ¬ IsUsual refuses path other) × IsOnly (MayStand refuses path) scalar)
+    ⊎ (((other : Scalar) → ¬ IsUsual refuses path other) × IsOnly (MayScalarStand refuses path) scalar)
 
 -- anything may stand
-abbrev pub IsFree : Refusals → Path → Type 0
-IsFree refuses path =
+abbrev pub IsFreeRow : Refusals → Path → Type 0
+IsFreeRow refuses path =
     ((scalar : Scalar) → ¬ refuses path (may_be scalar)) × (¬ refuses path struct)
     × (¬ refuses path list)
 
@@ -39,17 +39,17 @@ IsFree refuses path =
 abbrev pub HasNoChoice : Refusals → Path → Type 0
 HasNoChoice refuses path =
     (¬ HasNoScalar refuses path) × refuses path struct × refuses path list
-    × ((scalar : Scalar) → ¬ IsChosen refuses path scalar)
+    × ((scalar : Scalar) → ¬ IsChosenScalar refuses path scalar)
 
 -- A demanded path without a conflict is a gap where it is missing, or where no single value is
 -- told.
-pub record IsGap (refuses : Refusals) (gap : Gap) : Type 0 where
+pub record IsReportGap (refuses : Refusals) (gap : Gap) : Type 0 where
   pub demanded : IsDemanded refuses gap.path
   pub has_value : ¬ HasNoValue refuses gap.path
   pub allowed : ¬ IsNotAllowed refuses gap.path
   pub missing : IsTrue gap.missing ↔ IsMissing refuses gap.path
-  pub cause : IsMissing refuses gap.path ⊎ (IsFree refuses gap.path ⊎ HasNoChoice refuses gap.path)
+  pub cause : IsMissing refuses gap.path ⊎ (IsFreeRow refuses gap.path ⊎ HasNoChoice refuses gap.path)
 
 -- all gaps, in the order of their paths
 abbrev pub AreGaps : Refusals → List Gap → Type 0
-AreGaps refuses = Lists (λ gap. gap.path) (IsGap refuses)
+AreGaps refuses = Lists (λ gap. gap.path) (IsReportGap refuses)

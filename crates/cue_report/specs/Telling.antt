@@ -7,12 +7,12 @@ pub record Tally (X : Type 0) : Type 0 where
   pub known : Option (List X)
 
 -- known pieces grow by these
-abbrev pub Extends : {X : Type 0} → Option (List X) → Option (List X) → List X → Type 0
-Extends None new more = Unit {0}
-Extends (Some xs) None more = ⊥
-Extends (Some xs) (Some ys) more = ys ≡ xs ++ more
+abbrev pub ExtendsKnown : {X : Type 0} → Option (List X) → Option (List X) → List X → Type 0
+ExtendsKnown None new more = Unit {0}
+ExtendsKnown (Some xs) None more = ⊥
+ExtendsKnown (Some xs) (Some ys) more = ys ≡ xs ++ more
 
 -- these were told
-pub record Grows {X : Type 0} (old new : Tally X) (more : List X) : Type 0 where
+pub record WritesPieces {X : Type 0} (old new : Tally X) (more : List X) : Type 0 where
   pub count : new.count ≡ old.count + length more
-  pub known : Extends old.known new.known more
+  pub known : ExtendsKnown old.known new.known more

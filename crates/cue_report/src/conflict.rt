@@ -1,23 +1,23 @@
 ghost use Rattle.std.specs.Prelude.{◌≡◌, ◌↔◌, ◌-◌, false, [], IfOk, IfSome};
 ghost use Rattle.std.specs.Prelude.{OnOk, OnErr, nat_lt};
 ghost use Rattle.std.specs.Option.{option_map};
-ghost use Rattle.cue_row.specs.Row.{IsRow, RowRefuses};
+ghost use Rattle.cue_row.specs.Row.{IsRow, RowRefusesQuestion};
 ghost use Rattle.cue_table.specs.Refuses.{TableRefuses};
-ghost use Rattle.cue_table.specs.Spans.{spanned};
+ghost use Rattle.cue_table.specs.Spans.{branches_of_span};
 ghost use Rattle.cue_table.specs.StepsOfCode.{span_of};
-ghost use Rattle.cue_table.specs.Tree.{none, row_of, rest_of};
+ghost use Rattle.cue_table.specs.Tree.{none, row_of, rest_below};
 ghost use Rattle.cue_table.specs.Valid.{IsValidTable};
 ghost use Rattle.cue_report.specs.Documents.{SomeMeets};
-ghost use Rattle.cue_report.specs.Lines.{BeginsConflicts, TellsConflicts};
+ghost use Rattle.cue_report.specs.Lines.{WritesConflictsPrefix, WritesConflicts};
 ghost use Rattle.cue_report.specs.Listing.{AreConflicts};
 ghost use Rattle.cue_report.specs.Inner.Search.{has_no_value, conflict_here, conflicts_in};
 ghost use Rattle.cue_report.specs.Inner.Search.{conflicts_below, conflicts_onward, each_index};
-ghost use Rattle.cue_report.specs.Inner.Search.{told_under};
-ghost use Rattle.cue_report.specs.Telling.{Grows};
-ghost use Rattle.cue_report.specs.Inner.Telling.{Starts};
+ghost use Rattle.cue_report.specs.Inner.Search.{conflicts_under};
+ghost use Rattle.cue_report.specs.Telling.{WritesPieces};
+ghost use Rattle.cue_report.specs.Inner.Telling.{WritesPiecesPrefix};
 ghost use Rattle.cue_report.specs.Inner.Trail.{shown_steps};
 
-use crate::Place;
+use crate::ReportPlace;
 use crate::demand::{demanded_end, is_demanded, is_refused, lacks_value, least_of, rest_from};
 use crate::listed::Listed;
 use crate::place::enter;
@@ -33,7 +33,7 @@ use std::alloc::Global;
 #[derive(Debug, Drop)]
 pub struct Conflict {
     /// Where it is.
-    pub path: Place,
+    pub path: ReportPlace,
     /// No value may stand there.
     pub no_value: bool,
     /// The struct above does not allow the label.
@@ -44,13 +44,13 @@ pub struct Conflict {
 /// stand, or whose label the place above does not allow.
 pub fn conflicts(alloc: Global, table: &Table<Row>) -> Result<Vec<Conflict>, Memory>
     ensures conflicts { IfOk result (λ found.
-        AreConflicts (TableRefuses RowRefuses table.now) found.items) }
+        AreConflicts (TableRefuses RowRefusesQuestion table.now) found.items) }
     // Of a valid table there are none exactly where some document meets it.
     ensures exact { IsValidTable table.now → IfOk result (λ found.
-        (found.items ≡ []) ↔ SomeMeets (TableRefuses RowRefuses table.now)) }
+        (found.items ≡ []) ↔ SomeMeets (TableRefuses RowRefusesQuestion table.now)) }
 {
     let mut found = Vec::new(alloc);
-    let mut search = Search::new(alloc, Listed::new(alloc));
+    let mut search = ConflictSearch::new(alloc, Listed::new(alloc));
     search.visit(&mut found, &table.root(), false)?;
     Ok(found)
 }
@@ -61,44 +61,44 @@ pub fn conflicts(alloc: Global, table: &Table<Row>) -> Result<Vec<Conflict>, Mem
 /// # Errors
 ///
 /// Where no more is taken; then the front of the lines was.
-pub fn tell_conflicts<S: TextSink>(
+pub fn write_conflicts<S: TextSink>(
     alloc: Global,
     table: &Table<Row>,
     out: &mut S,
-) -> Result<bool, S::Halt>
-    ensures lines { IfOk result (λ some. TellsConflicts (TableRefuses RowRefuses table.now) some
+) -> Result<bool, S::SinkError>
+    ensures lines { IfOk result (λ some. WritesConflicts (TableRefuses RowRefusesQuestion table.now) some
         (S.taken out.old) (S.taken out.new)) }
-    ensures begun { OnErr result (BeginsConflicts (TableRefuses RowRefuses table.now)
+    ensures begun { OnErr result (WritesConflictsPrefix (TableRefuses RowRefusesQuestion table.now)
         (S.taken out.old) (S.taken out.new)) }
 {
-    let mut search = Search::new(alloc, Written::new(alloc));
+    let mut search = ConflictSearch::new(alloc, Written::new(alloc));
     search.visit(out, &table.root(), false)?;
-    Ok(search.has_told(out))
+    Ok(search.has_written(out))
 }
 
 /// A search for conflicts, from the root on.
 #[derive(Drop)]
-struct Search<'a, S> {
+struct ConflictSearch<'a, S> {
     /// How they are told.
     sink: S,
     /// The steps to the place at hand.
     steps: Vec<StepRef<'a>>,
 }
 
-impl<'a, S: ConflictSink> Search<'a, S> {
+impl<'a, S: ConflictSink> ConflictSearch<'a, S> {
     /// A search that stands at the root.
-    fn new(alloc: Global, sink: S) -> Search<'a, S>
+    fn new(alloc: Global, sink: S) -> ConflictSearch<'a, S>
         ensures sink { result.sink ≡ sink }
         ensures steps { result.steps.items ≡ [] }
     {
-        Search {
+        ConflictSearch {
             sink,
             steps: Vec::new(alloc),
         }
     }
 
     /// Whether anything was told.
-    fn has_told(&self, out: &S::Out) -> bool
+    fn has_written(&self, out: &S::Out) -> bool
         ensures { result ≡ nat_lt 0 (S.tally self.now.sink out.now).count }
     {
         self.sink.len(out) > 0
@@ -112,15 +112,15 @@ impl<'a, S: ConflictSink> Search<'a, S> {
         out: &mut S::Out,
         branch: &Branch<'a, Row>,
         not_allowed: bool,
-    ) -> Result<(), S::Halt>
+    ) -> Result<(), S::SinkError>
         ensures steps { OnOk result (self.new.steps.items ≡ self.old.steps.items) }
-        ensures found { OnOk result (Grows (S.tally self.old.sink out.old)
+        ensures found { OnOk result (WritesPieces (S.tally self.old.sink out.old)
             (S.tally self.new.sink out.new)
-            (told_under S.piece (shown_steps self.old.steps.items)
+            (conflicts_under S.piece (shown_steps self.old.steps.items)
             (conflicts_in not_allowed branch.now))) }
-        ensures begun { OnErr result (Starts (S.tally self.old.sink out.old)
+        ensures begun { OnErr result (WritesPiecesPrefix (S.tally self.old.sink out.old)
             (S.tally self.new.sink out.new)
-            (told_under S.piece (shown_steps self.old.steps.items)
+            (conflicts_under S.piece (shown_steps self.old.steps.items)
             (conflicts_in not_allowed branch.now))) }
     {
         let row = branch.row();
@@ -140,18 +140,18 @@ impl<'a, S: ConflictSink> Search<'a, S> {
         above: Option<&Row>,
         span: Span<'a>,
         child: &Branch<'a, Row>,
-    ) -> Result<(), S::Halt>
+    ) -> Result<(), S::SinkError>
         ensures steps { OnOk result (self.new.steps.items ≡ self.old.steps.items) }
-        ensures found { OnOk result (Grows (S.tally self.old.sink out.old)
+        ensures found { OnOk result (WritesPieces (S.tally self.old.sink out.old)
             (S.tally self.new.sink out.new)
-            (told_under S.piece (shown_steps self.old.steps.items)
+            (conflicts_under S.piece (shown_steps self.old.steps.items)
             (conflicts_below (option_map (λ row. row.now) above.entry)
-            (spanned (span_of span.entry) child.now none)))) }
-        ensures begun { OnErr result (Starts (S.tally self.old.sink out.old)
+            (branches_of_span (span_of span.entry) child.now none)))) }
+        ensures begun { OnErr result (WritesPiecesPrefix (S.tally self.old.sink out.old)
             (S.tally self.new.sink out.new)
-            (told_under S.piece (shown_steps self.old.steps.items)
+            (conflicts_under S.piece (shown_steps self.old.steps.items)
             (conflicts_below (option_map (λ row. row.now) above.entry)
-            (spanned (span_of span.entry) child.now none)))) }
+            (branches_of_span (span_of span.entry) child.now none)))) }
     {
         match span {
             Span::Label(label) => {
@@ -173,16 +173,16 @@ impl<'a, S: ConflictSink> Search<'a, S> {
 
     /// Looks for conflicts at the elements of a place that each list has and that are its rest.
     #[cycle(walk)]
-    fn visit_rest(&mut self, out: &mut S::Out, branch: &Branch<'a, Row>) -> Result<(), S::Halt>
+    fn visit_rest(&mut self, out: &mut S::Out, branch: &Branch<'a, Row>) -> Result<(), S::SinkError>
         ensures steps { OnOk result (self.new.steps.items ≡ self.old.steps.items) }
-        ensures found { OnOk result (Grows (S.tally self.old.sink out.old)
+        ensures found { OnOk result (WritesPieces (S.tally self.old.sink out.old)
             (S.tally self.new.sink out.new)
-            (told_under S.piece (shown_steps self.old.steps.items)
-            (conflicts_onward (row_of branch.now) (rest_of branch.now)))) }
-        ensures begun { OnErr result (Starts (S.tally self.old.sink out.old)
+            (conflicts_under S.piece (shown_steps self.old.steps.items)
+            (conflicts_onward (row_of branch.now) (rest_below branch.now)))) }
+        ensures begun { OnErr result (WritesPiecesPrefix (S.tally self.old.sink out.old)
             (S.tally self.new.sink out.new)
-            (told_under S.piece (shown_steps self.old.steps.items)
-            (conflicts_onward (row_of branch.now) (rest_of branch.now)))) }
+            (conflicts_under S.piece (shown_steps self.old.steps.items)
+            (conflicts_onward (row_of branch.now) (rest_below branch.now)))) }
     {
         let Some(rest) = branch.rest() else {
             return Ok(());
@@ -201,15 +201,15 @@ impl<'a, S: ConflictSink> Search<'a, S> {
         first: u32,
         end: u32,
         element: &Branch<'a, Row>,
-    ) -> Result<(), S::Halt>
+    ) -> Result<(), S::SinkError>
         ensures steps { OnOk result (self.new.steps.items ≡ self.old.steps.items) }
-        ensures found { OnOk result (Grows (S.tally self.old.sink out.old)
+        ensures found { OnOk result (WritesPieces (S.tally self.old.sink out.old)
             (S.tally self.new.sink out.new)
-            (told_under S.piece (shown_steps self.old.steps.items)
+            (conflicts_under S.piece (shown_steps self.old.steps.items)
             (each_index first (end - first) (conflicts_in false element.now)))) }
-        ensures begun { OnErr result (Starts (S.tally self.old.sink out.old)
+        ensures begun { OnErr result (WritesPiecesPrefix (S.tally self.old.sink out.old)
             (S.tally self.new.sink out.new)
-            (told_under S.piece (shown_steps self.old.steps.items)
+            (conflicts_under S.piece (shown_steps self.old.steps.items)
             (each_index first (end - first) (conflicts_in false element.now)))) }
     {
         for number in first..end {
@@ -232,15 +232,15 @@ fn look_at<S: ConflictSink>(
     steps: &[StepRef],
     row: Option<&Row>,
     not_allowed: bool,
-) -> Result<(), S::Halt>
+) -> Result<(), S::SinkError>
     requires { IfSome row (λ row. IsRow row.now) }
-    ensures found { OnOk result (Grows (S.tally sink.old out.old)
+    ensures found { OnOk result (WritesPieces (S.tally sink.old out.old)
         (S.tally sink.new out.new)
-        (told_under S.piece (shown_steps steps.now) (conflict_here
+        (conflicts_under S.piece (shown_steps steps.now) (conflict_here
         (has_no_value (option_map (λ row. row.now) row.entry)) not_allowed))) }
-    ensures begun { OnErr result (Starts (S.tally sink.old out.old)
+    ensures begun { OnErr result (WritesPiecesPrefix (S.tally sink.old out.old)
         (S.tally sink.new out.new)
-        (told_under S.piece (shown_steps steps.now) (conflict_here
+        (conflicts_under S.piece (shown_steps steps.now) (conflict_here
         (has_no_value (option_map (λ row. row.now) row.entry)) not_allowed))) }
 {
     let no_value = match row {

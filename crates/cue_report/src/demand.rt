@@ -2,7 +2,7 @@ ghost use Rattle.std.specs.Prelude.{◌≡◌, ◌+◌, min};
 ghost use Rattle.std.specs.Option.{option_map};
 ghost use Rattle.cue_row.specs.Row.{IsRow};
 ghost use Rattle.cue_table.specs.StepsOfCode.{step_at};
-ghost use Rattle.cue_table.specs.Tree.{rest_of};
+ghost use Rattle.cue_table.specs.Tree.{rest_below};
 ghost use Rattle.cue_report.specs.Inner.Search as search;
 ghost use Rattle.cue_report.specs.Inner.Search.{least_at, rest_from};
 
@@ -79,7 +79,7 @@ pub(crate) fn demanded_end(least: u32, first: u32, more: u32) -> u32
 /// From which of the elements that each list has on they are the rest of the list at a place: how
 /// many there are, where none is.
 pub(crate) fn rest_from(branch: &Branch<Row>, least: u32) -> u32
-    ensures { result ≡ rest_from (rest_of branch.now) least }
+    ensures { result ≡ rest_from (rest_below branch.now) least }
 {
     if branch.rest().is_none() {
         return least;

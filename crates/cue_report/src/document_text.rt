@@ -1,6 +1,6 @@
 ghost use Rattle.std.specs.Prelude.{◌≡◌, [], ◌∷◌, Some, OnOk, OnErr, IfOk, string_bytes};
 ghost use Rattle.json.specs.Tree.{json_tokens};
-ghost use Rattle.cue_row.specs.Row.{IsRow, RowRefuses};
+ghost use Rattle.cue_row.specs.Row.{IsRow, RowRefusesQuestion};
 ghost use Rattle.cue_table.specs.Refuses.{TableRefuses};
 ghost use Rattle.cue_table.specs.Tree.{row_of};
 ghost use Rattle.serde_json.specs.Data.{Data};
@@ -8,14 +8,14 @@ ghost use Rattle.serde_json.specs.Written.{compact_text, outline};
 ghost use Rattle.cue_report.specs.Export.{data_of};
 ghost use Rattle.cue_report.specs.Inner.GapSearch.{AtPlace};
 ghost use Rattle.cue_report.specs.Inner.Search.{least_at};
-ghost use Rattle.cue_report.specs.Stream.{Breaks, flow};
-ghost use Rattle.cue_report.specs.Inner.Writing.{Adds, AddsDocument, AddsElements, AddsMembers};
-ghost use Rattle.cue_report.specs.Inner.Writing.{AddsScalar, BeginsDocument, BreaksDocument};
-ghost use Rattle.cue_report.specs.Inner.Writing.{BreaksElements, BreaksMembers, IsDocumentOf};
+ghost use Rattle.cue_report.specs.Stream.{WritesTokensPrefix, flow_of};
+ghost use Rattle.cue_report.specs.Inner.Writing.{WritesJson, WritesDocument, WritesElements, WritesMembers};
+ghost use Rattle.cue_report.specs.Inner.Writing.{WritesScalar, WritesDocumentPrefix, BreaksInDocument};
+ghost use Rattle.cue_report.specs.Inner.Writing.{BreaksInElements, BreaksInMembers, IsDocumentOf};
 ghost use Rattle.cue_report.specs.Inner.Writing.{PutsDocument};
 
 use crate::demand::{is_demanded, least_of};
-use crate::shape::{is_free, picked};
+use crate::export::{is_free, pick_scalar};
 use crate::stream::Stream;
 use cue_device::TextSink;
 use cue_lattice::Memory;
@@ -28,10 +28,10 @@ use std::alloc::Global;
 /// The text of the document of a table without conflicts, as JSON (RFC 8259) without any space.
 pub(crate) fn document_text(alloc: Global, table: &Table<Row>) -> Result<String, Memory>
     ensures { IfOk result (λ text. (json : Data) × (string_bytes text ≡ compact_text json)
-        × IsDocumentOf (TableRefuses RowRefuses table.now) json) }
+        × IsDocumentOf (TableRefuses RowRefusesQuestion table.now) json) }
 {
     let mut text = String::new(alloc);
-    tell_document(alloc, table, &mut text)?;
+    write_table_document(alloc, table, &mut text)?;
     Ok(text)
 }
 
@@ -40,14 +40,14 @@ pub(crate) fn document_text(alloc: Global, table: &Table<Row>) -> Result<String,
 /// # Errors
 ///
 /// Where no more is taken; then the front of the text was.
-pub(crate) fn tell_document<S: TextSink>(
+pub(crate) fn write_table_document<S: TextSink>(
     alloc: Global,
     table: &Table<Row>,
     out: &mut S,
-) -> Result<(), S::Halt>
-    ensures told { OnOk result (PutsDocument (TableRefuses RowRefuses table.now)
+) -> Result<(), S::SinkError>
+    ensures told { OnOk result (PutsDocument (TableRefuses RowRefusesQuestion table.now)
         (S.taken out.old) (S.taken out.new)) }
-    ensures begun { OnErr result (BeginsDocument (TableRefuses RowRefuses table.now)
+    ensures begun { OnErr result (WritesDocumentPrefix (TableRefuses RowRefusesQuestion table.now)
         (S.taken out.old) (S.taken out.new)) }
 {
     let mut stream = Stream::new(alloc)?;
@@ -64,11 +64,11 @@ fn write_document<S: TextSink>(
     stream: &mut Stream,
     out: &mut S,
     branch: &Branch<Row>,
-) -> Result<(), S::Halt>
-    ensures told { OnOk result (AddsDocument (TableRefuses RowRefuses branch.now)
-        (flow (S.taken out.old) stream.old) (flow (S.taken out.new) stream.new)) }
-    ensures begun { OnErr result (BreaksDocument (TableRefuses RowRefuses branch.now)
-        (flow (S.taken out.old) stream.old) (S.taken out.new)) }
+) -> Result<(), S::SinkError>
+    ensures told { OnOk result (WritesDocument (TableRefuses RowRefusesQuestion branch.now)
+        (flow_of (S.taken out.old) stream.old) (flow_of (S.taken out.new) stream.new)) }
+    ensures begun { OnErr result (BreaksInDocument (TableRefuses RowRefusesQuestion branch.now)
+        (flow_of (S.taken out.old) stream.old) (S.taken out.new)) }
 {
     let Some(row) = branch.row() else {
         stream.token(out, Token::Null)?;
@@ -94,11 +94,11 @@ fn write_members<S: TextSink>(
     stream: &mut Stream,
     out: &mut S,
     branch: &Branch<Row>,
-) -> Result<(), S::Halt>
-    ensures told { OnOk result (AddsMembers (TableRefuses RowRefuses branch.now)
-        (flow (S.taken out.old) stream.old) (flow (S.taken out.new) stream.new)) }
-    ensures begun { OnErr result (BreaksMembers (TableRefuses RowRefuses branch.now)
-        (flow (S.taken out.old) stream.old) (S.taken out.new)) }
+) -> Result<(), S::SinkError>
+    ensures told { OnOk result (WritesMembers (TableRefuses RowRefusesQuestion branch.now)
+        (flow_of (S.taken out.old) stream.old) (flow_of (S.taken out.new) stream.new)) }
+    ensures begun { OnErr result (BreaksInMembers (TableRefuses RowRefusesQuestion branch.now)
+        (flow_of (S.taken out.old) stream.old) (S.taken out.new)) }
 {
     let row = branch.row();
     stream.token(out, Token::BeginObject)?;
@@ -125,13 +125,13 @@ fn write_elements<S: TextSink>(
     stream: &mut Stream,
     out: &mut S,
     branch: &Branch<Row>,
-) -> Result<(), S::Halt>
-    ensures told { OnOk result (AddsElements (TableRefuses RowRefuses branch.now)
+) -> Result<(), S::SinkError>
+    ensures told { OnOk result (WritesElements (TableRefuses RowRefusesQuestion branch.now)
         (least_at (row_of branch.now))
-        (flow (S.taken out.old) stream.old) (flow (S.taken out.new) stream.new)) }
-    ensures begun { OnErr result (BreaksElements (TableRefuses RowRefuses branch.now)
+        (flow_of (S.taken out.old) stream.old) (flow_of (S.taken out.new) stream.new)) }
+    ensures begun { OnErr result (BreaksInElements (TableRefuses RowRefusesQuestion branch.now)
         (least_at (row_of branch.now))
-        (flow (S.taken out.old) stream.old) (S.taken out.new)) }
+        (flow_of (S.taken out.old) stream.old) (S.taken out.new)) }
 {
     stream.token(out, Token::BeginArray)?;
     for number in 0..least_of(branch.row()) {
@@ -151,13 +151,13 @@ fn write_scalar<S: TextSink>(
     stream: &mut Stream,
     out: &mut S,
     row: &Row,
-) -> Result<(), S::Halt>
-    ensures told { IsRow row.now → OnOk result (AddsScalar (AtPlace (Some row.now))
-        (flow (S.taken out.old) stream.old) (flow (S.taken out.new) stream.new)) }
+) -> Result<(), S::SinkError>
+    ensures told { IsRow row.now → OnOk result (WritesScalar (AtPlace (Some row.now))
+        (flow_of (S.taken out.old) stream.old) (flow_of (S.taken out.new) stream.new)) }
     ensures begun { OnErr result
-        (Breaks (flow (S.taken out.old) stream.old) (S.taken out.new) []) }
+        (WritesTokensPrefix (flow_of (S.taken out.old) stream.old) (S.taken out.new) []) }
 {
-    match picked(alloc, row)? {
+    match pick_scalar(alloc, row)? {
         None => stream.token(out, Token::Null)?,
         Some(scalar) => write_one(stream, out, &scalar)?,
     }
@@ -165,11 +165,15 @@ fn write_scalar<S: TextSink>(
 }
 
 /// Writes a scalar.
-fn write_one<S: TextSink>(stream: &mut Stream, out: &mut S, scalar: &Scalar) -> Result<(), S::Halt>
-    ensures told { OnOk result (Adds (flow (S.taken out.old) stream.old)
-        (flow (S.taken out.new) stream.new) (data_of scalar.now)) }
+fn write_one<S: TextSink>(
+    stream: &mut Stream,
+    out: &mut S,
+    scalar: &Scalar,
+) -> Result<(), S::SinkError>
+    ensures told { OnOk result (WritesJson (flow_of (S.taken out.old) stream.old)
+        (flow_of (S.taken out.new) stream.new) (data_of scalar.now)) }
     ensures begun { OnErr result
-        (Breaks (flow (S.taken out.old) stream.old) (S.taken out.new) []) }
+        (WritesTokensPrefix (flow_of (S.taken out.old) stream.old) (S.taken out.new) []) }
 {
     match scalar {
         Scalar::Null => stream.token(out, Token::Null)?,

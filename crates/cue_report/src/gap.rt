@@ -1,21 +1,21 @@
 ghost use Rattle.std.specs.Prelude.{◌≡◌, ◌↔◌, Bool, false, Some, []};
 ghost use Rattle.std.specs.Prelude.{IfOk, IfSome, IfNone, IsTrue, OnOk, OnErr, nat_lt};
 ghost use Rattle.std.specs.Option.{option_map};
-ghost use Rattle.cue_row.specs.Row.{IsRow, RowRefuses};
+ghost use Rattle.cue_row.specs.Row.{IsRow, RowRefusesQuestion};
 ghost use Rattle.cue_table.specs.Refuses.{TableRefuses};
-ghost use Rattle.cue_table.specs.Spans.{spanned};
+ghost use Rattle.cue_table.specs.Spans.{branches_of_span};
 ghost use Rattle.cue_table.specs.StepsOfCode.{span_of};
-ghost use Rattle.cue_table.specs.Tree.{none, row_of, rest_of};
-ghost use Rattle.cue_report.specs.Inner.GapSearch.{IsGapAt, IsOpenAt, IsGapHere, IsGapIn, Adds};
-ghost use Rattle.cue_report.specs.Inner.GapSearch.{Fronts};
+ghost use Rattle.cue_table.specs.Tree.{none, row_of, rest_below};
+ghost use Rattle.cue_report.specs.Inner.GapSearch.{IsGapAt, IsOpenAt, IsGapHere, IsGapIn, WritesGapsWhere};
+ghost use Rattle.cue_report.specs.Inner.GapSearch.{WritesGapsPrefixWhere};
 ghost use Rattle.cue_report.specs.Inner.GapSearch.{IsGapBelow, IsGapAmong, IsGapOnward};
 ghost use Rattle.cue_report.specs.Inner.GapSearch.{free_before, free_elements, next_after};
-ghost use Rattle.cue_report.specs.Inner.GapSearch.{told_above};
+ghost use Rattle.cue_report.specs.Inner.GapSearch.{gaps_above};
 ghost use Rattle.cue_report.specs.Gaps.{AreGaps};
-ghost use Rattle.cue_report.specs.Lines.{BeginsGaps, TellsGaps};
+ghost use Rattle.cue_report.specs.Lines.{WritesGapsPrefix, WritesGaps};
 ghost use Rattle.cue_report.specs.Inner.Search.{lacks_value, least_at};
-ghost use Rattle.cue_report.specs.Telling.{Grows};
-ghost use Rattle.cue_report.specs.Inner.Telling.{Starts};
+ghost use Rattle.cue_report.specs.Telling.{WritesPieces};
+ghost use Rattle.cue_report.specs.Inner.Telling.{WritesPiecesPrefix};
 ghost use Rattle.cue_report.specs.Inner.Trail.{shown_steps};
 
 use crate::demand::{demanded_end, is_demanded, is_refused, least_of, rest_from};
@@ -23,7 +23,7 @@ use crate::listed::Listed;
 use crate::place::enter;
 use crate::sink::GapSink;
 use crate::written::Written;
-use crate::{Place, demand};
+use crate::{ReportPlace, demand};
 use cue_device::TextSink;
 use cue_lattice::{Memory, Narrow};
 use cue_row::{Level, Row};
@@ -34,7 +34,7 @@ use std::alloc::Global;
 #[derive(Debug, Drop)]
 pub struct Gap {
     /// Where it is.
-    pub path: Place,
+    pub path: ReportPlace,
     /// A required field is not given. Otherwise there is no single value.
     pub missing: bool,
 }
@@ -42,10 +42,10 @@ pub struct Gap {
 /// The gaps of a table, in the order of their paths: the demanded places without a conflict that
 /// are missing, or where no single value is told.
 pub fn incomplete(alloc: Global, table: &Table<Row>) -> Result<Vec<Gap>, Memory>
-    ensures { IfOk result (λ gaps. AreGaps (TableRefuses RowRefuses table.now) gaps.items) }
+    ensures { IfOk result (λ gaps. AreGaps (TableRefuses RowRefusesQuestion table.now) gaps.items) }
 {
     let mut found = Vec::new(alloc);
-    let mut search = Search::new(alloc, Listed::new(alloc));
+    let mut search = GapSearch::new(alloc, Listed::new(alloc));
     search.visit(&mut found, &table.root(), false)?;
     Ok(found)
 }
@@ -56,24 +56,24 @@ pub fn incomplete(alloc: Global, table: &Table<Row>) -> Result<Vec<Gap>, Memory>
 /// # Errors
 ///
 /// Where no more is taken; then the front of the lines was.
-pub fn tell_gaps<S: TextSink>(
+pub fn write_gaps<S: TextSink>(
     alloc: Global,
     table: &Table<Row>,
     out: &mut S,
-) -> Result<bool, S::Halt>
-    ensures lines { IfOk result (λ some. TellsGaps (TableRefuses RowRefuses table.now) some
+) -> Result<bool, S::SinkError>
+    ensures lines { IfOk result (λ some. WritesGaps (TableRefuses RowRefusesQuestion table.now) some
         (S.taken out.old) (S.taken out.new)) }
-    ensures begun { OnErr result (BeginsGaps (TableRefuses RowRefuses table.now)
+    ensures begun { OnErr result (WritesGapsPrefix (TableRefuses RowRefusesQuestion table.now)
         (S.taken out.old) (S.taken out.new)) }
 {
-    let mut search = Search::new(alloc, Written::new(alloc));
+    let mut search = GapSearch::new(alloc, Written::new(alloc));
     search.visit(out, &table.root(), false)?;
-    Ok(search.has_told(out))
+    Ok(search.has_written(out))
 }
 
 /// A search for gaps, from the root on.
 #[derive(Drop)]
-struct Search<'a, S> {
+struct GapSearch<'a, S> {
     alloc: Global,
     /// How they are told.
     sink: S,
@@ -81,13 +81,13 @@ struct Search<'a, S> {
     steps: Vec<StepRef<'a>>,
 }
 
-impl<'a, S: GapSink> Search<'a, S> {
+impl<'a, S: GapSink> GapSearch<'a, S> {
     /// A search that stands at the root.
-    fn new(alloc: Global, sink: S) -> Search<'a, S>
+    fn new(alloc: Global, sink: S) -> GapSearch<'a, S>
         ensures sink { result.sink ≡ sink }
         ensures steps { result.steps.items ≡ [] }
     {
-        Search {
+        GapSearch {
             alloc,
             sink,
             steps: Vec::new(alloc),
@@ -95,7 +95,7 @@ impl<'a, S: GapSink> Search<'a, S> {
     }
 
     /// Whether anything was told.
-    fn has_told(&self, out: &S::Out) -> bool
+    fn has_written(&self, out: &S::Out) -> bool
         ensures { result ≡ nat_lt 0 (S.tally self.now.sink out.now).count }
     {
         self.sink.len(out) > 0
@@ -108,13 +108,13 @@ impl<'a, S: GapSink> Search<'a, S> {
         out: &mut S::Out,
         branch: &Branch<'a, Row>,
         not_allowed: bool,
-    ) -> Result<(), S::Halt>
+    ) -> Result<(), S::SinkError>
         ensures steps { OnOk result (self.new.steps.items ≡ self.old.steps.items) }
-        ensures gaps { OnOk result (Adds S.piece
+        ensures gaps { OnOk result (WritesGapsWhere S.piece
             (IsGapIn not_allowed branch.now)
             (shown_steps self.old.steps.items)
             (S.tally self.old.sink out.old) (S.tally self.new.sink out.new)) }
-        ensures begun { OnErr result (Fronts S.piece
+        ensures begun { OnErr result (WritesGapsPrefixWhere S.piece
             (IsGapIn not_allowed branch.now)
             (shown_steps self.old.steps.items)
             (S.tally self.old.sink out.old) (S.tally self.new.sink out.new)) }
@@ -149,16 +149,16 @@ impl<'a, S: GapSink> Search<'a, S> {
         above: Option<&Row>,
         span: Span<'a>,
         child: &Branch<'a, Row>,
-    ) -> Result<(), S::Halt>
+    ) -> Result<(), S::SinkError>
         ensures steps { OnOk result (self.new.steps.items ≡ self.old.steps.items) }
-        ensures gaps { OnOk result (Adds S.piece
+        ensures gaps { OnOk result (WritesGapsWhere S.piece
             (IsGapBelow (option_map (λ row. row.now) above.entry)
-            (spanned (span_of span.entry) child.now none))
+            (branches_of_span (span_of span.entry) child.now none))
             (shown_steps self.old.steps.items)
             (S.tally self.old.sink out.old) (S.tally self.new.sink out.new)) }
-        ensures begun { OnErr result (Fronts S.piece
+        ensures begun { OnErr result (WritesGapsPrefixWhere S.piece
             (IsGapBelow (option_map (λ row. row.now) above.entry)
-            (spanned (span_of span.entry) child.now none))
+            (branches_of_span (span_of span.entry) child.now none))
             (shown_steps self.old.steps.items)
             (S.tally self.old.sink out.old) (S.tally self.new.sink out.new)) }
     {
@@ -182,14 +182,14 @@ impl<'a, S: GapSink> Search<'a, S> {
 
     /// Looks for gaps at the elements of a place that each list has and that are its rest.
     #[cycle(walk)]
-    fn visit_rest(&mut self, out: &mut S::Out, branch: &Branch<'a, Row>) -> Result<(), S::Halt>
+    fn visit_rest(&mut self, out: &mut S::Out, branch: &Branch<'a, Row>) -> Result<(), S::SinkError>
         ensures steps { OnOk result (self.new.steps.items ≡ self.old.steps.items) }
-        ensures gaps { OnOk result (Adds S.piece
-            (IsGapOnward (least_at (row_of branch.now)) (rest_of branch.now))
+        ensures gaps { OnOk result (WritesGapsWhere S.piece
+            (IsGapOnward (least_at (row_of branch.now)) (rest_below branch.now))
             (shown_steps self.old.steps.items)
             (S.tally self.old.sink out.old) (S.tally self.new.sink out.new)) }
-        ensures begun { OnErr result (Fronts S.piece
-            (IsGapOnward (least_at (row_of branch.now)) (rest_of branch.now))
+        ensures begun { OnErr result (WritesGapsPrefixWhere S.piece
+            (IsGapOnward (least_at (row_of branch.now)) (rest_below branch.now))
             (shown_steps self.old.steps.items)
             (S.tally self.old.sink out.old) (S.tally self.new.sink out.new)) }
     {
@@ -210,13 +210,13 @@ impl<'a, S: GapSink> Search<'a, S> {
         first: u32,
         end: u32,
         element: &Branch<'a, Row>,
-    ) -> Result<(), S::Halt>
+    ) -> Result<(), S::SinkError>
         ensures steps { OnOk result (self.new.steps.items ≡ self.old.steps.items) }
-        ensures gaps { OnOk result (Adds S.piece
+        ensures gaps { OnOk result (WritesGapsWhere S.piece
             (IsGapAmong first end element.now)
             (shown_steps self.old.steps.items)
             (S.tally self.old.sink out.old) (S.tally self.new.sink out.new)) }
-        ensures begun { OnErr result (Fronts S.piece
+        ensures begun { OnErr result (WritesGapsPrefixWhere S.piece
             (IsGapAmong first end element.now)
             (shown_steps self.old.steps.items)
             (S.tally self.old.sink out.old) (S.tally self.new.sink out.new)) }
@@ -242,13 +242,13 @@ fn look_at<S: GapSink>(
     steps: &[StepRef],
     row: Option<&Row>,
     not_allowed: bool,
-) -> Result<(), S::Halt>
+) -> Result<(), S::SinkError>
     requires { IfSome row (λ row. IsRow row.now) }
-    ensures gaps { OnOk result (Adds S.piece
+    ensures gaps { OnOk result (WritesGapsWhere S.piece
         (IsGapHere not_allowed (option_map (λ row. row.now) row.entry))
         (shown_steps steps.now)
         (S.tally sink.old out.old) (S.tally sink.new out.new)) }
-    ensures begun { OnErr result (Fronts S.piece
+    ensures begun { OnErr result (WritesGapsPrefixWhere S.piece
         (IsGapHere not_allowed (option_map (λ row. row.now) row.entry))
         (shown_steps steps.now)
         (S.tally sink.old out.old) (S.tally sink.new out.new)) }
@@ -275,14 +275,14 @@ fn reach<S: GapSink>(
     next: u32,
     least: u32,
     span: Span,
-) -> Result<u32, S::Halt>
-    ensures gaps { OnOk result (Grows (S.tally sink.old out.old)
+) -> Result<u32, S::SinkError>
+    ensures gaps { OnOk result (WritesPieces (S.tally sink.old out.old)
         (S.tally sink.new out.new)
-        (told_above S.piece (shown_steps steps.now)
+        (gaps_above S.piece (shown_steps steps.now)
         (free_before next least (span_of span.entry)))) }
-    ensures begun { OnErr result (Starts (S.tally sink.old out.old)
+    ensures begun { OnErr result (WritesPiecesPrefix (S.tally sink.old out.old)
         (S.tally sink.new out.new)
-        (told_above S.piece (shown_steps steps.now)
+        (gaps_above S.piece (shown_steps steps.now)
         (free_before next least (span_of span.entry)))) }
     ensures next { IfOk result (λ found. found ≡ next_after next least (span_of span.entry)) }
 {

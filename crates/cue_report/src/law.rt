@@ -1,6 +1,6 @@
 ghost use Rattle.cue_lattice.specs.Question.{SameAnswers};
 ghost use Rattle.cue_row.specs.declared.parts.RowParts.{RowParts as Row};
-ghost use Rattle.cue_row.specs.Row.{RowRefuses};
+ghost use Rattle.cue_row.specs.Row.{RowRefusesQuestion};
 ghost use Rattle.cue_table.specs.Tree.{Tree};
 ghost use Rattle.cue_table.specs.Refuses.{TableRefuses};
 ghost use Rattle.cue_report.specs.OneReport.{HaveOneReport};
@@ -10,6 +10,6 @@ ghost use Rattle.cue_report.specs.OneReport.{HaveOneReport};
 ///
 /// It computes nothing: it states a law.
 pub fn one_report()
-    ensures { (a b : Tree Row) → SameAnswers (TableRefuses RowRefuses a) (TableRefuses RowRefuses b)
-        → HaveOneReport (TableRefuses RowRefuses a) (TableRefuses RowRefuses b) }
+    ensures { (a b : Tree Row) → SameAnswers (TableRefuses RowRefusesQuestion a) (TableRefuses RowRefusesQuestion b)
+        → HaveOneReport (TableRefuses RowRefusesQuestion a) (TableRefuses RowRefusesQuestion b) }
 {}

@@ -2,9 +2,9 @@ ghost use Rattle.std.specs.Prelude.{◌≡◌, ◌++◌, [], ◌∷◌, Some, fa
 ghost use Rattle.cue_lattice.specs.Path.{index};
 ghost use Rattle.cue_report.specs.Inner.Trail.{shown_steps};
 
-use crate::place::copied;
+use crate::place::copy_steps;
 use crate::sink::{ConflictSink, GapSink};
-use crate::{Conflict, Gap, Place};
+use crate::{Conflict, Gap, ReportPlace};
 use cue_lattice::Memory;
 use cue_row::Step;
 use cue_table::StepRef;
@@ -28,10 +28,10 @@ impl Listed {
             ++ record { path = shown_steps steps.now ++ index number ∷ []; missing = false } ∷ []) }
         ensures kept { OnErr result (out.new.items ≡ out.old.items) }
     {
-        let mut path = copied(self.alloc, steps)?;
+        let mut path = copy_steps(self.alloc, steps)?;
         path.push(Step::Index(number))?;
         out.push(Gap {
-            path: Place::new(path),
+            path: ReportPlace::new(path),
             missing: false,
         })?;
         Ok(())
@@ -43,7 +43,7 @@ impl ConflictSink for Listed {
 
     type Piece = Conflict;
 
-    type Halt = Memory;
+    type SinkError = Memory;
 
     ghost tally = { λ listed out. record { count = length out.items; known = Some out.items } };
 
@@ -60,7 +60,7 @@ impl ConflictSink for Listed {
         no_value: bool,
         not_allowed: bool,
     ) -> Result<(), Memory> {
-        let path = Place::new(copied(self.alloc, steps)?);
+        let path = ReportPlace::new(copy_steps(self.alloc, steps)?);
         out.push(Conflict {
             path,
             no_value,
@@ -75,7 +75,7 @@ impl GapSink for Listed {
 
     type Piece = Gap;
 
-    type Halt = Memory;
+    type SinkError = Memory;
 
     ghost tally = { λ listed out. record { count = length out.items; known = Some out.items } };
 
@@ -86,7 +86,7 @@ impl GapSink for Listed {
     }
 
     fn gap(&mut self, out: &mut Vec<Gap>, steps: &[StepRef], missing: bool) -> Result<(), Memory> {
-        let path = Place::new(copied(self.alloc, steps)?);
+        let path = ReportPlace::new(copy_steps(self.alloc, steps)?);
         out.push(Gap { path, missing })?;
         Ok(())
     }

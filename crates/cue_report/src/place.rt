@@ -13,11 +13,11 @@ use std::marker::Model;
 /// end of the longest path of a table is one step further than a [`cue_row::Path`] leads. Contracts
 /// see the list of the steps.
 #[derive(Debug, Drop)]
-pub struct Place {
+pub struct ReportPlace {
     steps: Vec<Step>,
 }
 
-impl Model for Place {
+impl Model for ReportPlace {
     ghost use Rattle.std.specs.Prelude.{map};
     ghost use Rattle.cue_lattice.specs.Path.{Path};
 
@@ -28,12 +28,12 @@ impl Model for Place {
     ghost view = { λ place. map step_of place.steps.items };
 }
 
-impl Place {
+impl ReportPlace {
     /// The place to which these steps lead.
-    pub fn new(steps: Vec<Step>) -> Place
+    pub fn new(steps: Vec<Step>) -> ReportPlace
         ensures { result ≡ map step_of steps.items }
     {
-        Place { steps }
+        ReportPlace { steps }
     }
 
     /// The steps from the root.
@@ -54,7 +54,7 @@ impl Place {
 }
 
 /// Copies of the steps.
-pub(crate) fn copied(alloc: Global, steps: &[StepRef]) -> Result<Vec<Step>, Memory>
+pub(crate) fn copy_steps(alloc: Global, steps: &[StepRef]) -> Result<Vec<Step>, Memory>
     ensures { IfOk result (λ copies. map step_of copies.items ≡ shown_steps steps.now) }
 {
     let mut copies = Vec::with_capacity(alloc, steps.len())?;

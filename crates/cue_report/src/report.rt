@@ -1,9 +1,9 @@
 ghost use Rattle.std.specs.Prelude.{◌≡◌, ◌++◌, IfOk, OnOk, string_bytes};
 ghost use Rattle.std.specs.List.{flat_map};
-ghost use Rattle.cue_report.specs.Lines.{conflict_line, gap_line, line, line_end};
+ghost use Rattle.cue_report.specs.Lines.{conflict_line, gap_line, line_of_report, report_line_end};
 ghost use Rattle.cue_report.specs.Lines.{cause_text, lack_text};
 
-use crate::{Conflict, Gap, Place};
+use crate::{Conflict, Gap, ReportPlace};
 use cue_lattice::Memory;
 use cue_row::push_steps;
 use std::alloc::Global;
@@ -42,15 +42,15 @@ fn push_gaps(out: &mut String, gaps: &[Gap]) -> Result<(), Memory>
         (string_bytes out.new ≡ string_bytes out.old ++ flat_map gap_line gaps.now) }
 {
     for gap in gaps {
-        push_line(out, "incomplete ", &gap.path, lack(gap.missing))?;
+        push_line(out, "incomplete ", &gap.path, gap_reason(gap.missing))?;
     }
     Ok(())
 }
 
 /// Writes one line: what it reports, where, and why.
-fn push_line(out: &mut String, what: &str, path: &Place, why: &str) -> Result<(), Memory>
+fn push_line(out: &mut String, what: &str, path: &ReportPlace, why: &str) -> Result<(), Memory>
     ensures { OnOk result
-        (string_bytes out.new ≡ string_bytes out.old ++ line what.now path.now why.now) }
+        (string_bytes out.new ≡ string_bytes out.old ++ line_of_report what.now path.now why.now) }
 {
     out.push_str(what)?;
     push_steps(out, path.steps())?;
@@ -61,7 +61,7 @@ fn push_line(out: &mut String, what: &str, path: &Place, why: &str) -> Result<()
 /// Writes the end of a line: why it is there.
 pub(crate) fn end_line(out: &mut String, why: &str) -> Result<(), Memory>
     ensures { OnOk result
-        (string_bytes out.new ≡ string_bytes out.old ++ line_end why.now) }
+        (string_bytes out.new ≡ string_bytes out.old ++ report_line_end why.now) }
 {
     out.push(' ')?;
     out.push_str(why)?;
@@ -82,7 +82,7 @@ pub(crate) fn cause(no_value: bool, not_allowed: bool) -> &'static str
 }
 
 /// What is lacking.
-pub(crate) fn lack(missing: bool) -> &'static str
+pub(crate) fn gap_reason(missing: bool) -> &'static str
     ensures { result.now ≡ lack_text missing }
 {
     if missing {

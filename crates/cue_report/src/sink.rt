@@ -1,7 +1,7 @@
 ghost use Rattle.std.specs.Prelude.{◌≡◌, ◌<◌, ◌-◌, List, length, OnOk, OnErr};
-ghost use Rattle.cue_report.specs.Inner.GapSearch.{told_above, free_elements};
-ghost use Rattle.cue_report.specs.Telling.{Tally, Grows};
-ghost use Rattle.cue_report.specs.Inner.Telling.{Starts};
+ghost use Rattle.cue_report.specs.Inner.GapSearch.{gaps_above, free_elements};
+ghost use Rattle.cue_report.specs.Telling.{Tally, WritesPieces};
+ghost use Rattle.cue_report.specs.Inner.Telling.{WritesPiecesPrefix};
 ghost use Rattle.cue_report.specs.Inner.Trail.{shown_steps};
 ghost use Rattle.cue_report.specs.declared.conflict.Conflict.{Conflict as Conflicts};
 ghost use Rattle.cue_report.specs.declared.gap.Gap.{Gap as Gaps};
@@ -18,7 +18,7 @@ pub(crate) trait ConflictSink {
     type Piece;
 
     /// Why no more is told.
-    type Halt: From<Memory> + Drop;
+    type SinkError: From<Memory> + Drop;
 
     // All that was told so far, and how a conflict is told.
     ghost tally: { Self → Self.Out → Tally Self.Piece };
@@ -37,14 +37,14 @@ pub(crate) trait ConflictSink {
         steps: &[StepRef],
         no_value: bool,
         not_allowed: bool,
-    ) -> Result<(), Self::Halt>
-        ensures told { OnOk result (Grows (tally self.old out.old) (tally self.new out.new)
+    ) -> Result<(), Self::SinkError>
+        ensures told { OnOk result (WritesPieces (tally self.old out.old) (tally self.new out.new)
             (piece (record {
               path = shown_steps steps.now;
               no_value = no_value;
               not_allowed = not_allowed;
             }))) }
-        ensures begun { OnErr result (Starts (tally self.old out.old) (tally self.new out.new)
+        ensures begun { OnErr result (WritesPiecesPrefix (tally self.old out.old) (tally self.new out.new)
             (piece (record {
               path = shown_steps steps.now;
               no_value = no_value;
@@ -61,7 +61,7 @@ pub(crate) trait GapSink {
     type Piece;
 
     /// Why no more is told.
-    type Halt: From<Memory> + Drop;
+    type SinkError: From<Memory> + Drop;
 
     // All that was told so far, and how a gap is told.
     ghost tally: { Self → Self.Out → Tally Self.Piece };
@@ -79,10 +79,10 @@ pub(crate) trait GapSink {
         out: &mut Self::Out,
         steps: &[StepRef],
         missing: bool,
-    ) -> Result<(), Self::Halt>
-        ensures told { OnOk result (Grows (tally self.old out.old) (tally self.new out.new)
+    ) -> Result<(), Self::SinkError>
+        ensures told { OnOk result (WritesPieces (tally self.old out.old) (tally self.new out.new)
             (piece (record { path = shown_steps steps.now; missing = missing }))) }
-        ensures begun { OnErr result (Starts (tally self.old out.old) (tally self.new out.new)
+        ensures begun { OnErr result (WritesPiecesPrefix (tally self.old out.old) (tally self.new out.new)
             (piece (record { path = shown_steps steps.now; missing = missing }))) };
 
     /// Tells of the elements of that place from the first on, before the end: they are free.
@@ -92,9 +92,9 @@ pub(crate) trait GapSink {
         steps: &[StepRef],
         first: u32,
         end: u32,
-    ) -> Result<(), Self::Halt>
-        ensures told { OnOk result (Grows (tally self.old out.old) (tally self.new out.new)
-            (told_above piece (shown_steps steps.now) (free_elements first (end - first)))) }
-        ensures begun { OnErr result (Starts (tally self.old out.old) (tally self.new out.new)
-            (told_above piece (shown_steps steps.now) (free_elements first (end - first)))) };
+    ) -> Result<(), Self::SinkError>
+        ensures told { OnOk result (WritesPieces (tally self.old out.old) (tally self.new out.new)
+            (gaps_above piece (shown_steps steps.now) (free_elements first (end - first)))) }
+        ensures begun { OnErr result (WritesPiecesPrefix (tally self.old out.old) (tally self.new out.new)
+            (gaps_above piece (shown_steps steps.now) (free_elements first (end - first)))) };
 }

@@ -5,7 +5,7 @@ ghost use Rattle.std.specs.Str.{IsCharBoundary};
 ghost use Rattle.json.specs.Print.{ends, print_from, token_text, IsPrintable};
 ghost use Rattle.json.specs.Reads.{token_of};
 ghost use Rattle.json.specs.Token.{number};
-ghost use Rattle.cue_report.specs.Stream.{Breaks, Streams, flow, opener};
+ghost use Rattle.cue_report.specs.Stream.{WritesTokensPrefix, WritesTokens, flow_of, opener};
 
 use cue_device::TextSink;
 use cue_lattice::Memory;
@@ -36,9 +36,9 @@ pub(crate) struct Stream {
 }
 
 impl Model for Stream {
-    ghost use Rattle.cue_report.specs.Stream.{Streamed, streamed_code};
+    ghost use Rattle.cue_report.specs.Stream.{PendingText, streamed_code};
 
-    ghost Value = { Streamed };
+    ghost Value = { PendingText };
 
     ghost coded = { streamed_code };
 
@@ -55,7 +55,7 @@ impl Stream {
         ensures pending { IfOk result (λ stream. stream.pending ≡ []) }
         ensures owes { IfOk result (λ stream. stream.owes ≡ false) }
     {
-        let writer = opened(alloc, false)?;
+        let writer = open_writer(alloc, false)?;
         Ok(Stream {
             alloc,
             writer,
@@ -70,12 +70,12 @@ impl Stream {
     /// # Errors
     ///
     /// Where no more is taken; then nothing of the token was.
-    pub fn token<S: TextSink>(&mut self, out: &mut S, token: Token<'_>) -> Result<(), S::Halt>
+    pub fn token<S: TextSink>(&mut self, out: &mut S, token: Token<'_>) -> Result<(), S::SinkError>
         requires { IsPrintable (token_of token) }
-        ensures told { OnOk result (Streams (flow (S.taken out.old) self.old)
-            (flow (S.taken out.new) self.new) (token_of token.entry ∷ [])) }
+        ensures told { OnOk result (WritesTokens (flow_of (S.taken out.old) self.old)
+            (flow_of (S.taken out.new) self.new) (token_of token.entry ∷ [])) }
         ensures begun { OnErr result
-            (Breaks (flow (S.taken out.old) self.old) (S.taken out.new) []) }
+            (WritesTokensPrefix (flow_of (S.taken out.old) self.old) (S.taken out.new) []) }
     {
         self.make_room(out, token)?;
         self.write(token)?;
@@ -87,11 +87,11 @@ impl Stream {
     /// # Errors
     ///
     /// Where no more is taken; then nothing of the integer was.
-    pub fn integer<S: TextSink>(&mut self, out: &mut S, integer: i64) -> Result<(), S::Halt>
-        ensures told { OnOk result (Streams (flow (S.taken out.old) self.old)
-            (flow (S.taken out.new) self.new) (number (signed_decimal integer) ∷ [])) }
+    pub fn integer<S: TextSink>(&mut self, out: &mut S, integer: i64) -> Result<(), S::SinkError>
+        ensures told { OnOk result (WritesTokens (flow_of (S.taken out.old) self.old)
+            (flow_of (S.taken out.new) self.new) (number (signed_decimal integer) ∷ [])) }
         ensures begun { OnErr result
-            (Breaks (flow (S.taken out.old) self.old) (S.taken out.new) []) }
+            (WritesTokensPrefix (flow_of (S.taken out.old) self.old) (S.taken out.new) []) }
     {
         self.make_room(out, Token::Null)?;
         self.write_integer(integer)?;
@@ -99,11 +99,11 @@ impl Stream {
     }
 
     /// Puts what is pending.
-    pub fn drain<S: TextSink>(&mut self, out: &mut S) -> Result<(), S::Halt>
-        ensures told { OnOk result (Streams (flow (S.taken out.old) self.old)
-            (flow (S.taken out.new) self.new) []) }
+    pub fn drain<S: TextSink>(&mut self, out: &mut S) -> Result<(), S::SinkError>
+        ensures told { OnOk result (WritesTokens (flow_of (S.taken out.old) self.old)
+            (flow_of (S.taken out.new) self.new) []) }
         ensures begun { OnErr result
-            (Breaks (flow (S.taken out.old) self.old) (S.taken out.new) []) }
+            (WritesTokensPrefix (flow_of (S.taken out.old) self.old) (S.taken out.new) []) }
         ensures none { OnOk result (self.new.pending ≡ []) }
     {
         let (text, skipped) = self.take()?;
@@ -120,7 +120,7 @@ impl Stream {
         ensures owes { self.new.owes ≡ self.old.owes }
         ensures err { OnErr result (self.new ≡ self.old) }
     {
-        let empty = opened(self.alloc, self.owes)?;
+        let empty = open_writer(self.alloc, self.owes)?;
         let skipped = opener_len(self.primed);
         let full = mem::replace(&mut self.writer, empty);
         self.primed = self.owes;
@@ -156,11 +156,11 @@ impl Stream {
     }
 
     /// Puts what is pending, where it is long, before a token is written.
-    fn make_room<S: TextSink>(&mut self, out: &mut S, token: Token<'_>) -> Result<(), S::Halt>
-        ensures told { OnOk result (Streams (flow (S.taken out.old) self.old)
-            (flow (S.taken out.new) self.new) []) }
+    fn make_room<S: TextSink>(&mut self, out: &mut S, token: Token<'_>) -> Result<(), S::SinkError>
+        ensures told { OnOk result (WritesTokens (flow_of (S.taken out.old) self.old)
+            (flow_of (S.taken out.new) self.new) []) }
         ensures begun { OnErr result
-            (Breaks (flow (S.taken out.old) self.old) (S.taken out.new) []) }
+            (WritesTokensPrefix (flow_of (S.taken out.old) self.old) (S.taken out.new) []) }
     {
         if self.weight >= PART {
             self.drain(out)?;
@@ -171,7 +171,7 @@ impl Stream {
 }
 
 /// A writer with nothing but a token that is not told: a value, where the next token owes a comma.
-fn opened(alloc: Global, owes: bool) -> Result<Writer, Memory>
+fn open_writer(alloc: Global, owes: bool) -> Result<Writer, Memory>
     ensures before { IfOk result (λ writer. writer.before ≡ []) }
     ensures tokens { IfOk result (λ writer. writer.tokens ≡ opener owes ∷ []) }
 {

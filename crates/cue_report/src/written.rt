@@ -3,12 +3,12 @@ ghost use Rattle.std.specs.List.{flat_map};
 ghost use Rattle.cue_lattice.specs.Path.{index};
 ghost use Rattle.cue_row.specs.PathText.{label_text, path_text, step_text};
 ghost use Rattle.cue_table.specs.StepsOfCode.{step_at};
-ghost use Rattle.cue_report.specs.Lines.{conflict_line, gap_line, line_end};
-ghost use Rattle.cue_report.specs.Telling.{Grows};
-ghost use Rattle.cue_report.specs.Inner.Telling.{Starts};
+ghost use Rattle.cue_report.specs.Lines.{conflict_line, gap_line, report_line_end};
+ghost use Rattle.cue_report.specs.Telling.{WritesPieces};
+ghost use Rattle.cue_report.specs.Inner.Telling.{WritesPiecesPrefix};
 ghost use Rattle.cue_report.specs.Inner.Trail.{dotted_behind, shown_steps};
 
-use crate::report::{cause, end_line, lack};
+use crate::report::{cause, end_line, gap_reason};
 use crate::sink::{ConflictSink, GapSink};
 use cue_device::TextSink;
 use cue_lattice::{Memory, Text};
@@ -43,13 +43,13 @@ impl<S: TextSink> Written<S> {
     }
 
     /// Puts the line at hand.
-    fn put_line(&mut self, out: &mut S) -> Result<(), S::Halt>
+    fn put_line(&mut self, out: &mut S) -> Result<(), S::SinkError>
         ensures list { OnOk result (string_bytes self.new.list ≡ string_bytes self.old.list) }
-        ensures told { OnOk result (Grows
+        ensures told { OnOk result (WritesPieces
             (record { count = self.old.told; known = S.taken out.old })
             (record { count = self.new.told; known = S.taken out.new })
             (string_bytes self.old.line)) }
-        ensures begun { OnErr result (Starts
+        ensures begun { OnErr result (WritesPiecesPrefix
             (record { count = self.old.told; known = S.taken out.old })
             (record { count = self.new.told; known = S.taken out.new })
             (string_bytes self.old.line)) }
@@ -90,7 +90,7 @@ impl<S: TextSink> Written<S> {
         self.line.clear();
         self.line.push_str("incomplete ")?;
         push_place(&mut self.line, steps)?;
-        end_line(&mut self.line, lack(missing))?;
+        end_line(&mut self.line, gap_reason(missing))?;
         Ok(())
     }
 
@@ -100,13 +100,13 @@ impl<S: TextSink> Written<S> {
         ensures list { OnOk result (string_bytes self.new.list ≡ string_bytes self.old.list) }
         ensures line { OnOk result (string_bytes self.new.line
             ≡ codes "incomplete " ++ (string_bytes self.old.list ++ (step_text (index number)
-            ++ line_end (codes "not a single value")))) }
+            ++ report_line_end (codes "not a single value")))) }
     {
         self.line.clear();
         self.line.push_str("incomplete ")?;
         self.line.push_str(self.list.as_str())?;
         push_index(&mut self.line, number)?;
-        end_line(&mut self.line, lack(false))?;
+        end_line(&mut self.line, gap_reason(false))?;
         Ok(())
     }
 
@@ -128,7 +128,7 @@ fn with_more(told: u64, more: usize) -> Result<u64, Memory>
     let more = more as u64;
     match told.checked_add(more) {
         Some(all) => Ok(all),
-        None => Err(Memory::beyond(told, more)),
+        None => Err(Memory::too_many(told, more)),
     }
 }
 
@@ -137,7 +137,7 @@ impl<S: TextSink> ConflictSink for Written<S> {
 
     type Piece = u8;
 
-    type Halt = S::Halt;
+    type SinkError = S::SinkError;
 
     ghost tally = { λ written out. record { count = written.told; known = S.taken out } };
 
@@ -153,7 +153,7 @@ impl<S: TextSink> ConflictSink for Written<S> {
         steps: &[StepRef],
         no_value: bool,
         not_allowed: bool,
-    ) -> Result<(), S::Halt> {
+    ) -> Result<(), S::SinkError> {
         self.conflict_line(steps, no_value, not_allowed)?;
         self.put_line(out)?;
         Ok(())
@@ -165,7 +165,7 @@ impl<S: TextSink> GapSink for Written<S> {
 
     type Piece = u8;
 
-    type Halt = S::Halt;
+    type SinkError = S::SinkError;
 
     ghost tally = { λ written out. record { count = written.told; known = S.taken out } };
 
@@ -175,7 +175,7 @@ impl<S: TextSink> GapSink for Written<S> {
         self.told
     }
 
-    fn gap(&mut self, out: &mut S, steps: &[StepRef], missing: bool) -> Result<(), S::Halt> {
+    fn gap(&mut self, out: &mut S, steps: &[StepRef], missing: bool) -> Result<(), S::SinkError> {
         self.gap_line(steps, missing)?;
         self.put_line(out)?;
         Ok(())
@@ -187,7 +187,7 @@ impl<S: TextSink> GapSink for Written<S> {
         steps: &[StepRef],
         first: u32,
         end: u32,
-    ) -> Result<(), S::Halt> {
+    ) -> Result<(), S::SinkError> {
         if first >= end {
             return Ok(());
         }

@@ -10,7 +10,7 @@ use Rattle.cue_row.specs.declared.level.Level.TheVariants.{Given}
 use Rattle.cue_row.specs.declared.parts.RowParts.{RowParts}
 use Rattle.cue_row.specs.declared.question.Question.TheVariants as questions
 use Rattle.cue_row.specs.declared.small.Small.TheVariants as small
-use Rattle.cue_row.specs.Inner.Covers.{Covers}
+use Rattle.cue_row.specs.Inner.Covers.{CoversRow}
 use Rattle.cue_row.specs.Inner.Forms.{IsFormWithin}
 use Rattle.cue_row.specs.Kept.{small_parts}
 use Rattle.cue_row.specs.Kinds.{IsEmptySet}
@@ -22,7 +22,7 @@ use Rattle.cue_row.proofs.MetRows.{below_max}
 
 -- ---- what covering is good for
 -- nothing but the level changes where a row is unified that is covered
-pub covered : (a b : RowParts) (level : Level) → Covers a b → level_of level ≡ max (level_of a.level) (level_of b.level) → IsMetRow a b (at_level level a)
+pub covered : (a b : RowParts) (level : Level) → CoversRow a b → level_of level ≡ max (level_of a.level) (level_of b.level) → IsMetRow a b (at_level level a)
 covered a b level h l (questions.MayBe x) = (λ r. inl r, ⊎_elim (λ r. r) (h (questions.MayBe x)))
 covered a b level h l (questions.Usual x) = (λ r. inl r, ⊎_elim (λ r. r) (h (questions.Usual x)))
 covered a b level h l questions.Struct = (λ r. inl r, ⊎_elim (λ r. r) (h questions.Struct))
@@ -35,7 +35,7 @@ covered a b level h l (questions.LengthAtLeast n) = (λ r. inl r, ⊎_elim (λ r
 turned : {A B C : Type 0} → A ↔ (B ⊎ C) → A ↔ (C ⊎ B)
 turned h = (λ a. ⊎_elim (λ b. inr b) (λ c. inl c) (h.0 a), λ e. h.1 (⊎_elim (λ c. inr c) (λ b. inl b) e))
 
-pub covered_by : (a b : RowParts) (level : Level) → Covers b a → level_of level ≡ max (level_of a.level) (level_of b.level) → IsMetRow a b (at_level level b)
+pub covered_by : (a b : RowParts) (level : Level) → CoversRow b a → level_of level ≡ max (level_of a.level) (level_of b.level) → IsMetRow a b (at_level level b)
 covered_by a b level h l question = turned (covered b a level h (omega arith) question)
 
 refused_when_empty : (set : ScalarSet) → IsEmptySet set → (x : Scalar) → RefusesScalar empty_set x → RefusesScalar set x
@@ -46,7 +46,7 @@ refused_when_empty set none (scalars.Int n) r = (r.0, none (scalars.Int n))
 refused_when_empty set none (scalars.Text t) r = none (scalars.Text t)
 
 -- where neither scalars nor lists stand, a row covers a struct with any labels
-pub covers_struct : (row : RowParts) (a b : Level) → row.list_ok ≡ false → IsEmptySet row.value → IsEmptySet row.usual → Covers (at_level a row) (small_parts b small.Struct)
+pub covers_struct : (row : RowParts) (a b : Level) → row.list_ok ≡ false → IsEmptySet row.value → IsEmptySet row.usual → CoversRow (at_level a row) (small_parts b small.Struct)
 covers_struct row a b list value usual (questions.MayBe x) r = refused_when_empty row.value value x r
 covers_struct row a b list value usual (questions.Usual x) r = refused_when_empty row.usual usual x r
 covers_struct row a b list value usual questions.Struct r = absurd (false≢true (sym r))
@@ -67,7 +67,7 @@ empty_refuses set (scalars.Int n) r = (r.0, refl)
 empty_refuses set (scalars.Text t) r = refl
 
 -- a row that lets no scalar stand covers one that refuses no label, and fewer of structs, lists and lengths
-pub form_covers : (row other : RowParts) (a b : Level) → IsFormWithin (at_level Given row) other → other.labels ≡ None → IsEmptySet row.value → IsEmptySet row.usual → Covers (at_level a row) (at_level b other)
+pub form_covers : (row other : RowParts) (a b : Level) → IsFormWithin (at_level Given row) other → other.labels ≡ None → IsEmptySet row.value → IsEmptySet row.usual → CoversRow (at_level a row) (at_level b other)
 form_covers row other a b form labels value usual (questions.MayBe x) r = refused_when_empty row.value value x (empty_refuses other.value x r)
 form_covers row other a b form labels value usual (questions.Usual x) r = refused_when_empty row.usual usual x (empty_refuses other.usual x r)
 form_covers row other a b form labels value usual questions.Struct r = form.struct_ok r

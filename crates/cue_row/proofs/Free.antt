@@ -11,7 +11,7 @@ use Rattle.cue_row.specs.Levels.{level_of}
 use Rattle.cue_row.specs.LabelSets.{RefusesLabel}
 use Rattle.cue_row.specs.Lengths.{RefusesLength}
 use Rattle.cue_row.specs.Inner.Forms.{AllowsAllForms}
-use Rattle.cue_row.specs.Row.{Refuses}
+use Rattle.cue_row.specs.Row.{RefusesAsked}
 use Rattle.cue_row.specs.RowLaws.{same_level}
 
 no_length : (most : Option ℕ) (n : ℕ) → most ≡ None → RefusesLength most n → ⊥
@@ -29,7 +29,7 @@ no_greatest (Some m) h = absurd (h (m + 1) (omega arith))
 -- a row whose parts refuse nothing
 pub free_row :
     (row : Row) → AllowsAllForms row → ((x : Scalar) → ¬ RefusesScalar row.value x) → ((x : Scalar) → ¬ RefusesScalar row.usual x)
-    → ((l : List ℕ) → ¬ RefusesLabel row.labels l) → (question : Question) → Refuses row question → ⊥
+    → ((l : List ℕ) → ¬ RefusesLabel row.labels l) → (question : Question) → RefusesAsked row question → ⊥
 free_row row forms value usual labels (questions.MayBe x) r = value x r
 free_row row forms value usual labels (questions.Usual x) r = usual x r
 free_row row forms value usual labels questions.Struct r = false≢true (sym r ∙ forms.struct_ok)
@@ -40,7 +40,7 @@ free_row row forms value usual labels (questions.LengthAtMost n) r = let e = for
 free_row row forms value usual labels (questions.LengthAtLeast n) r = no_length row.most n forms.most r
 
 -- what a row that refuses nothing says of forms
-pub forms_of_free : (row : Row) → ((question : Question) → ¬ Refuses row question) → AllowsAllForms row
+pub forms_of_free : (row : Row) → ((question : Question) → ¬ RefusesAsked row question) → AllowsAllForms row
 forms_of_free row free = record {
   level = let no = free (questions.LevelAtMost 0) in same_level row.level Optional (omega arith);
   struct_ok = not_false row.struct_ok (free questions.Struct);

@@ -10,7 +10,7 @@ use Rattle.cue_row.specs.declared.question.Question.TheVariants as questions
 use Rattle.cue_row.specs.Levels.{level_of}
 use Rattle.cue_row.specs.LabelSets.{RefusesLabel}
 use Rattle.cue_row.specs.Lengths.{RefusesLength}
-use Rattle.cue_row.specs.Row.{Refuses}
+use Rattle.cue_row.specs.Row.{RefusesAsked}
 
 -- below the greater of two numbers
 pub below_max : (k m n x : ℕ) → x ≡ max m n → (k < x) ↔ ((k < m) ⊎ (k < n))
@@ -28,7 +28,7 @@ pub met_rows :
     → ((l : List ℕ) → RefusesLabel m.labels l ↔ (RefusesLabel a.labels l ⊎ RefusesLabel b.labels l))
     → m.least ≡ max a.least b.least
     → ((n : ℕ) → RefusesLength m.most n ↔ (RefusesLength a.most n ⊎ RefusesLength b.most n))
-    → (question : Question) → Refuses m question ↔ (Refuses a question ⊎ Refuses b question)
+    → (question : Question) → RefusesAsked m question ↔ (RefusesAsked a question ⊎ RefusesAsked b question)
 met_rows a b m level value usual struct_ok list_ok labels least most (questions.MayBe x) = value x
 met_rows a b m level value usual struct_ok list_ok labels least most (questions.Usual x) = usual x
 met_rows a b m level value usual struct_ok list_ok labels least most questions.Struct = and_refuses a.struct_ok b.struct_ok m.struct_ok struct_ok

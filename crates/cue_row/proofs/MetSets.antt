@@ -7,7 +7,7 @@ use Rattle.std.specs.Str.{bytes_eq}
 use Rattle.cue_lattice.specs.declared.scalar.Scalar.{Scalar}
 use Rattle.cue_lattice.specs.declared.scalar.Scalar.TheVariants as scalars
 use Rattle.cue_lattice.specs.Scalar.{IsInteger}
-use Rattle.cue_sets.specs.Pieces.{is_member, least, greatest, IsCanonical, Refuses}
+use Rattle.cue_sets.specs.Pieces.{is_member, least, greatest, IsCanonical, RefusesInteger}
 use Rattle.cue_sets.specs.PieceLaws.{is_member-below, is_member-above, some_member}
 use Rattle.cue_sets.specs.Texts.{is_listed, RefusesText}
 use Rattle.cue_sets.specs.TextLaws.{first_is_listed, some_text, greatest_length, zeros, is_listed-zeros}
@@ -41,7 +41,7 @@ bool_met false true false h = refl
 bool_met false false b h = refl
 
 int_met :
-    (a b m : List (ℤ × ℤ)) (n : ℤ) → IsCanonical a → IsCanonical m → Refuses m n ↔ (Refuses a n ⊎ Refuses b n)
+    (a b m : List (ℤ × ℤ)) (n : ℤ) → IsCanonical a → IsCanonical m → RefusesInteger m n ↔ (RefusesInteger a n ⊎ RefusesInteger b n)
     → is_member m n ≡ (is_member a n && is_member b n)
 int_met a b m n p r h =
     by_lt_z n least

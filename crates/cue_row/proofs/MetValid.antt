@@ -4,7 +4,7 @@ use Rattle.std.proofs.lemmas.Bool.{false≢true, cases_lt, and_left, and_from}
 use Rattle.cue_lattice.specs.Limits.{length_limit}
 use Rattle.cue_lattice.specs.declared.scalar.Scalar.{Scalar}
 use Rattle.cue_lattice.specs.declared.scalar.Scalar.TheVariants as scalar_forms
-use Rattle.cue_scalars.specs.Scalars.{members, IsWithin}
+use Rattle.cue_scalars.specs.Scalars.{members, IsScalarsWithin}
 use Rattle.cue_scalars.specs.ScalarLaws.{same_scalars}
 use Rattle.cue_row.specs.declared.parts.RowParts.{RowParts as Row}
 use Rattle.cue_row.specs.declared.level.Level.{Level}
@@ -16,7 +16,7 @@ use Rattle.cue_row.specs.Levels.{level_of}
 use Rattle.cue_row.specs.LabelSets.{RefusesLabel}
 use Rattle.cue_row.specs.LabelLaws.{same_labels}
 use Rattle.cue_row.specs.Lengths.{RefusesLength}
-use Rattle.cue_row.specs.Kinds.{IsEmptySet, IsKind}
+use Rattle.cue_row.specs.Kinds.{IsEmptySet, IsRowKind}
 use Rattle.cue_row.specs.Row.{IsRow, IsMetRow}
 use Rattle.cue_row.specs.RowLaws.{same_level, same_length}
 use Rattle.cue_row.specs.ValidRow.{UsualFits, LabelsFit, LengthsFit, AreLengths, HasWords, IsValidRow}
@@ -104,7 +104,7 @@ met_level a b m h e f =
 
 -- what a row says beside its level fits a kind
 abbrev FitsAs : Row → RowKind → Type 0
-FitsAs row kind = IsKind row kind × UsualFits row kind × LabelsFit row kind × LengthsFit row kind
+FitsAs row kind = IsRowKind row kind × UsualFits row kind × LabelsFit row kind × LengthsFit row kind
 
 -- the row is of a kind, and fits it
 record Fits (row : Row) : Type 0 where
@@ -144,7 +144,7 @@ both_true true true e = (refl, refl)
 both_true true false e = absurd (false≢true e)
 both_true false b e = absurd (false≢true e)
 
-usual_within : (a b m : Row) → AreMetRows a b m → IsWithin a.usual a.value → IsWithin b.usual b.value → IsWithin m.usual m.value
+usual_within : (a b m : Row) → AreMetRows a b m → IsScalarsWithin a.usual a.value → IsScalarsWithin b.usual b.value → IsScalarsWithin m.usual m.value
 usual_within a b m h p q x e =
     let usual = both_true (members a.usual x) (members b.usual x) (sym (usual_met a b m h x) ∙ e) in
     value_met a b m h x ∙ and_from (members a.value x) (members b.value x) (p x usual.0) (q x usual.1)
@@ -259,11 +259,11 @@ met_valid a b m h p q =
     }
 
 -- what may hold fields may still, or holds nothing
-pub met_struct : (a b m : Row) → AreMetRows a b m → IsValidRow b → IsKind a Struct ⊎ IsKind a Nothing → IsKind m Struct ⊎ IsKind m Nothing
+pub met_struct : (a b m : Row) → AreMetRows a b m → IsValidRow b → IsRowKind a Struct ⊎ IsRowKind a Nothing → IsRowKind m Struct ⊎ IsRowKind m Nothing
 met_struct a b m h q =
     ⊎_elim (λ p. by q.kind p q.is_kind) (λ p. inr (no_value a b m h p.0, no_struct a b m h p.1, no_list a b m h p.2))
   where
-    by : (k : RowKind) → IsKind a Struct → IsKind b k → IsKind m Struct ⊎ IsKind m Nothing
+    by : (k : RowKind) → IsRowKind a Struct → IsRowKind b k → IsRowKind m Struct ⊎ IsRowKind m Nothing
     by Free p k = inl (no_value a b m h p.0, struct_met a b m h ∙ and_from a.struct_ok b.struct_ok p.1 k.1, no_list a b m h p.2)
     by Struct p k = inl (no_value a b m h p.0, struct_met a b m h ∙ and_from a.struct_ok b.struct_ok p.1 k.1, no_list a b m h p.2)
     by Scalars p k = inr (no_value a b m h p.0, no_struct b a m (turned a b m h) k.1, no_list a b m h p.2)
@@ -271,11 +271,11 @@ met_struct a b m h q =
     by Nothing p k = inr (no_value a b m h p.0, no_struct b a m (turned a b m h) k.1, no_list a b m h p.2)
 
 -- and so what may hold elements
-pub met_list : (a b m : Row) → AreMetRows a b m → IsValidRow b → IsKind a Lists ⊎ IsKind a Nothing → IsKind m Lists ⊎ IsKind m Nothing
+pub met_list : (a b m : Row) → AreMetRows a b m → IsValidRow b → IsRowKind a Lists ⊎ IsRowKind a Nothing → IsRowKind m Lists ⊎ IsRowKind m Nothing
 met_list a b m h q =
     ⊎_elim (λ p. by q.kind p q.is_kind) (λ p. inr (no_value a b m h p.0, no_struct a b m h p.1, no_list a b m h p.2))
   where
-    by : (k : RowKind) → IsKind a Lists → IsKind b k → IsKind m Lists ⊎ IsKind m Nothing
+    by : (k : RowKind) → IsRowKind a Lists → IsRowKind b k → IsRowKind m Lists ⊎ IsRowKind m Nothing
     by Free p k = inl (no_value a b m h p.0, no_struct a b m h p.1, list_met a b m h ∙ and_from a.list_ok b.list_ok p.2 k.2)
     by Lists p k = inl (no_value a b m h p.0, no_struct a b m h p.1, list_met a b m h ∙ and_from a.list_ok b.list_ok p.2 k.2)
     by Scalars p k = inr (no_value a b m h p.0, no_struct a b m h p.1, no_list b a m (turned a b m h) k.2)
@@ -283,5 +283,5 @@ met_list a b m h q =
     by Nothing p k = inr (no_value a b m h p.0, no_struct a b m h p.1, no_list b a m (turned a b m h) k.2)
 
 -- structs are met to a struct
-pub met_structs : (a b m : Row) → AreMetRows a b m → IsKind a Struct → IsKind b Struct → IsKind m Struct
+pub met_structs : (a b m : Row) → AreMetRows a b m → IsRowKind a Struct → IsRowKind b Struct → IsRowKind m Struct
 met_structs a b m h p q = (no_value a b m h p.0, struct_met a b m h ∙ and_from a.struct_ok b.struct_ok p.1 q.1, no_list a b m h p.2)

@@ -27,7 +27,7 @@ use Rattle.cue_row.specs.LabelSets.{RefusesLabel}
 use Rattle.cue_row.specs.Lengths.{RefusesLength}
 use Rattle.cue_row.specs.Levels.{level_of}
 use Rattle.cue_row.specs.Made.{empty_set, full_set, lone_row}
-use Rattle.cue_row.specs.Row.{IsMetRow, Refuses}
+use Rattle.cue_row.specs.Row.{IsMetRow, RefusesAsked}
 use Rattle.cue_row.proofs.Free.{not_false, free_row}
 use Rattle.cue_row.proofs.MetRows.{met_rows}
 
@@ -152,27 +152,27 @@ rows_met s t u a b c x y z met level x_is y_is z_is =
     (subst (λ row. IsMetRow (small_parts a s) (small_parts b t) row) z_is (met a b c level)))
 
 -- ---- small rows that refuse nothing
-free_when : (level : Level) (s : Small) → level ≡ Optional → s ≡ small.Anything → (question : Question) → ¬ Refuses (small_parts level s) question
+free_when : (level : Level) (s : Small) → level ≡ Optional → s ≡ small.Anything → (question : Question) → ¬ RefusesAsked (small_parts level s) question
 free_when level s l e =
-    subst (λ l. (question : Question) → ¬ Refuses (small_parts l s) question) (sym l)
-    (subst (λ t. (question : Question) → ¬ Refuses (small_parts Optional t) question) (sym e)
+    subst (λ l. (question : Question) → ¬ RefusesAsked (small_parts l s) question) (sym l)
+    (subst (λ t. (question : Question) → ¬ RefusesAsked (small_parts Optional t) question) (sym e)
     (free_row (small_parts Optional small.Anything) (record { level = refl; struct_ok = refl; list_ok = refl; least = refl; most = refl }) all_of_anything all_of_anything (λ l r. false≢true (sym r))))
 
-anything_of_free : (level : Level) (s : Small) → ((question : Question) → ¬ Refuses (small_parts level s) question) → s ≡ small.Anything
+anything_of_free : (level : Level) (s : Small) → ((question : Question) → ¬ RefusesAsked (small_parts level s) question) → s ≡ small.Anything
 anything_of_free level small.Anything free = refl
 anything_of_free level small.Struct free = absurd (free questions.List refl)
 anything_of_free level (small.Few few) free = absurd (free questions.List refl)
 anything_of_free level (small.Integers piece) free = absurd (free questions.List refl)
 anything_of_free level (small.Text text) free = absurd (free questions.List refl)
 
-optional_of_free : (level : Level) → ((question : Question) → ¬ Refuses (small_parts level small.Anything) question) → level ≡ Optional
+optional_of_free : (level : Level) → ((question : Question) → ¬ RefusesAsked (small_parts level small.Anything) question) → level ≡ Optional
 optional_of_free level free = let no = free (questions.LevelAtMost 0) in same_level level Optional (omega arith)
 
-pub small_is_free : (level : Level) (s : Small) → ((level ≡ Optional) × (s ≡ small.Anything)) ↔ ((question : Question) → ¬ Refuses (small_parts level s) question)
+pub small_is_free : (level : Level) (s : Small) → ((level ≡ Optional) × (s ≡ small.Anything)) ↔ ((question : Question) → ¬ RefusesAsked (small_parts level s) question)
 small_is_free level s = (
   λ e. free_when level s e.0 e.1,
   λ free. let any = anything_of_free level s free in
-      (optional_of_free level (subst (λ t. (question : Question) → ¬ Refuses (small_parts level t) question) any free), any),
+      (optional_of_free level (subst (λ t. (question : Question) → ¬ RefusesAsked (small_parts level t) question) any free), any),
 )
 
 -- ---- rows that are kept small

@@ -6,6 +6,6 @@ use Rattle.cue_row.specs.declared.parts.RowParts.{RowParts as Row}
 use Rattle.cue_row.specs.Kinds.{IsEmptySet}
 
 -- the only usual scalar, or, where none is usual, the only one that may stand
-abbrev pub IsChosen : Row → Scalar → Type 0
-IsChosen row scalar =
+abbrev pub IsRowChosen : Row → Scalar → Type 0
+IsRowChosen row scalar =
     IsOnlyScalar row.usual scalar ⊎ (IsEmptySet row.usual × IsOnlyScalar row.value scalar)

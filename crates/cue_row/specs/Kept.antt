@@ -4,8 +4,8 @@ use Rattle.cue_scalars.specs.declared.scalar_set.ScalarSet.{ScalarSet}
 use Rattle.cue_sets.specs.Pieces.{IsCanonical}
 use Rattle.cue_row.specs.declared.level.Level.{Level}
 use Rattle.cue_row.specs.declared.parts.RowParts.{RowParts}
-use Rattle.cue_row.specs.declared.row.Form.{Form}
-use Rattle.cue_row.specs.declared.row.Form.TheVariants as forms
+use Rattle.cue_row.specs.declared.row.RowForm.{RowForm}
+use Rattle.cue_row.specs.declared.row.RowForm.TheVariants as forms
 use Rattle.cue_row.specs.declared.small.Few.{Few}
 use Rattle.cue_row.specs.declared.small.Small.{Small}
 use Rattle.cue_row.specs.declared.small.Small.TheVariants as small
@@ -50,18 +50,18 @@ small_parts level (small.Integers piece) = lone_row level (integers_set piece)
 small_parts level (small.Text text) = lone_row level (text_set text)
 
 -- the parts of a row
-abbrev pub parts_of : Form → RowParts
-parts_of (forms.Small level small) = small_parts level small
-parts_of (forms.Whole level parts) = at_level level parts.value
+abbrev pub row_parts_of : RowForm → RowParts
+row_parts_of (forms.Small level small) = small_parts level small
+row_parts_of (forms.Whole level parts) = at_level level parts.value
 
 -- a piece has a number
-abbrev pub IsSmall : Small → Type 0
-IsSmall small.Anything = Unit {0}
-IsSmall small.Struct = Unit {0}
-IsSmall (small.Few few) = Unit {0}
-IsSmall (small.Integers piece) = IsCanonical (piece ∷ [])
-IsSmall (small.Text text) = Unit {0}
+abbrev pub IsSmallRow : Small → Type 0
+IsSmallRow small.Anything = Unit {0}
+IsSmallRow small.Struct = Unit {0}
+IsSmallRow (small.Few few) = Unit {0}
+IsSmallRow (small.Integers piece) = IsCanonical (piece ∷ [])
+IsSmallRow (small.Text text) = Unit {0}
 
-abbrev pub IsKept : Form → Type 0
-IsKept (forms.Small level small) = IsSmall small
-IsKept (forms.Whole level parts) = Unit {0}
+abbrev pub IsSetKept : RowForm → Type 0
+IsSetKept (forms.Small level small) = IsSmallRow small
+IsSetKept (forms.Whole level parts) = Unit {0}

@@ -16,9 +16,9 @@ abbrev pub IsFullSet : ScalarSet → Type 0
 IsFullSet set = (scalar : Scalar) → ¬ RefusesScalar set scalar
 
 -- which scalars, whether a struct and whether a list may stand
-abbrev pub IsKind : Row → RowKind → Type 0
-IsKind row kinds.Free = IsFullSet row.value × (row.struct_ok ≡ true) × (row.list_ok ≡ true)
-IsKind row kinds.Scalar = (¬ IsEmptySet row.value) × (row.struct_ok ≡ false) × (row.list_ok ≡ false)
-IsKind row kinds.Struct = IsEmptySet row.value × (row.struct_ok ≡ true) × (row.list_ok ≡ false)
-IsKind row kinds.List = IsEmptySet row.value × (row.struct_ok ≡ false) × (row.list_ok ≡ true)
-IsKind row kinds.Nothing = IsEmptySet row.value × (row.struct_ok ≡ false) × (row.list_ok ≡ false)
+abbrev pub IsRowKind : Row → RowKind → Type 0
+IsRowKind row kinds.Free = IsFullSet row.value × (row.struct_ok ≡ true) × (row.list_ok ≡ true)
+IsRowKind row kinds.Scalar = (¬ IsEmptySet row.value) × (row.struct_ok ≡ false) × (row.list_ok ≡ false)
+IsRowKind row kinds.Struct = IsEmptySet row.value × (row.struct_ok ≡ true) × (row.list_ok ≡ false)
+IsRowKind row kinds.List = IsEmptySet row.value × (row.struct_ok ≡ false) × (row.list_ok ≡ true)
+IsRowKind row kinds.Nothing = IsEmptySet row.value × (row.struct_ok ≡ false) × (row.list_ok ≡ false)

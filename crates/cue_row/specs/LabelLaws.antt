@@ -9,19 +9,19 @@ use Rattle.cue_sets.specs.TextLaws.{is_listed-zeros}
 use Rattle.cue_row.specs.LabelSets.{allows_label, RefusesLabel, AreLabels, labels_of, IsLabelSet}
 
 -- a text that is longer than all that are listed
-longer : List (List ℕ) → List ℕ
-longer labels = zeros (greatest_length labels + 1)
+longer_text : List (List ℕ) → List ℕ
+longer_text labels = zeros (greatest_length labels + 1)
 
-longer_refused : (labels : List (List ℕ)) → is_listed labels (longer labels) ≡ false
-unfolding longer
+longer_refused : (labels : List (List ℕ)) → is_listed labels (longer_text labels) ≡ false
+unfolding longer_text
 longer_refused labels = is_listed-zeros labels (greatest_length labels + 1) (omega arith)
 
 -- equal answers are equal labels
 pub same_labels : (a b : Option (List (List ℕ))) → AreLabels a → AreLabels b
     → ((l : List ℕ) → RefusesLabel a l ↔ RefusesLabel b l) → a ≡ b
 same_labels None None p q e = refl
-same_labels None (Some ys) p q e = absurd (false≢true (sym ((e (longer ys)).1 (longer_refused ys))))
-same_labels (Some xs) None p q e = absurd (false≢true (sym ((e (longer xs)).0 (longer_refused xs))))
+same_labels None (Some ys) p q e = absurd (false≢true (sym ((e (longer_text ys)).1 (longer_refused ys))))
+same_labels (Some xs) None p q e = absurd (false≢true (sym ((e (longer_text xs)).0 (longer_refused xs))))
 same_labels (Some xs) (Some ys) p q e =
     ap (λ zs. Some zs) (same_from_listed xs ys p q (λ t. bool_same _ _ (e t).0 (e t).1))
 

@@ -4,10 +4,10 @@ use Rattle.std.specs.Prelude.{map, decimal}
 use Rattle.std.specs.Char.{is_ascii_digit, is_ascii_alphanumeric}
 use Rattle.std.specs.List.{list_all, join_with_byte}
 use Rattle.cue_lattice.specs.Path.{Step, Path, label, index}
-use Rattle.cue_row.specs.Quoted.{quoted}
+use Rattle.cue_row.specs.Quoted.{quote_text}
 
-abbrev pub dot : ℕ
-dot = 0x2e
+abbrev pub path_dot : ℕ
+path_dot = 0x2e
 
 abbrev pub underscore : ℕ
 underscore = 0x5f
@@ -26,7 +26,7 @@ is_bare [] = false
 is_bare (b ∷ bs) = not (is_ascii_digit b) && list_all is_word_byte (b ∷ bs)
 
 abbrev pub label_text : List ℕ → List ℕ
-label_text l = if is_bare l then l else quoted l
+label_text l = if is_bare l then l else quote_text l
 
 -- a label bare or quoted, and an index in decimal digits
 abbrev pub step_text : Step → List ℕ
@@ -35,5 +35,5 @@ step_text (index n) = decimal n
 
 -- a dot for the root, and otherwise the steps with dots between them
 abbrev pub path_text : Path → List ℕ
-path_text [] = dot ∷ []
-path_text (step ∷ steps) = join_with_byte dot (map step_text (step ∷ steps))
+path_text [] = path_dot ∷ []
+path_text (step ∷ steps) = join_with_byte path_dot (map step_text (step ∷ steps))

@@ -18,12 +18,12 @@ question_of (LengthAtMost length) = places.length_at_most length
 question_of (LengthAtLeast length) = places.length_at_least length
 
 -- the question of the program that stands for a question
-abbrev pub asked_by : places.Question → Question
-asked_by (places.may_be scalar) = MayBe scalar
-asked_by (places.usual scalar) = Usual scalar
-asked_by places.struct = Struct
-asked_by places.list = List
-asked_by (places.allows label) = Allows label
-asked_by (places.level_at_most level) = LevelAtMost level
-asked_by (places.length_at_most length) = LengthAtMost length
-asked_by (places.length_at_least length) = LengthAtLeast length
+abbrev pub asked_by_question : places.Question → Question
+asked_by_question (places.may_be scalar) = MayBe scalar
+asked_by_question (places.usual scalar) = Usual scalar
+asked_by_question places.struct = Struct
+asked_by_question places.list = List
+asked_by_question (places.allows label) = Allows label
+asked_by_question (places.level_at_most level) = LevelAtMost level
+asked_by_question (places.length_at_most length) = LengthAtMost length
+asked_by_question (places.length_at_least length) = LengthAtLeast length

@@ -11,19 +11,19 @@ use Rattle.cue_row.specs.Lengths.{RefusesLength}
 use Rattle.cue_row.specs.Questions.{question_of}
 
 -- what a row refuses
-abbrev pub RowRefuses : Row → Question → Type 0
-RowRefuses row (may_be scalar) = RefusesScalar row.value scalar
-RowRefuses row (usual scalar) = RefusesScalar row.usual scalar
-RowRefuses row struct = row.struct_ok ≡ false
-RowRefuses row list = row.list_ok ≡ false
-RowRefuses row (allows label) = RefusesLabel row.labels label
-RowRefuses row (level_at_most k) = k < level_of row.level
-RowRefuses row (length_at_most n) = n < row.least
-RowRefuses row (length_at_least n) = RefusesLength row.most n
+abbrev pub RowRefusesQuestion : Row → Question → Type 0
+RowRefusesQuestion row (may_be scalar) = RefusesScalar row.value scalar
+RowRefusesQuestion row (usual scalar) = RefusesScalar row.usual scalar
+RowRefusesQuestion row struct = row.struct_ok ≡ false
+RowRefusesQuestion row list = row.list_ok ≡ false
+RowRefusesQuestion row (allows label) = RefusesLabel row.labels label
+RowRefusesQuestion row (level_at_most k) = k < level_of row.level
+RowRefusesQuestion row (length_at_most n) = n < row.least
+RowRefusesQuestion row (length_at_least n) = RefusesLength row.most n
 
 -- what a row refuses of what the program asks
-abbrev pub Refuses : Row → program.Question → Type 0
-Refuses row question = RowRefuses row (question_of question)
+abbrev pub RefusesAsked : Row → program.Question → Type 0
+RefusesAsked row question = RowRefusesQuestion row (question_of question)
 
 -- sets and labels are kept in their one form
 pub record IsRow (row : Row) : Type 0 where
@@ -34,4 +34,4 @@ pub record IsRow (row : Row) : Type 0 where
 -- the row refuses what one of the two others refuses
 abbrev pub IsMetRow : Row → Row → Row → Type 0
 IsMetRow a b met =
-    (question : program.Question) → Refuses met question ↔ (Refuses a question ⊎ Refuses b question)
+    (question : program.Question) → RefusesAsked met question ↔ (RefusesAsked a question ⊎ RefusesAsked b question)

@@ -11,7 +11,7 @@ use Rattle.cue_row.specs.declared.question.Question.TheVariants as questions
 use Rattle.cue_row.specs.Levels.{level_of}
 use Rattle.cue_row.specs.LabelLaws.{same_labels}
 use Rattle.cue_row.specs.Lengths.{RefusesLength}
-use Rattle.cue_row.specs.Row.{Refuses, IsRow}
+use Rattle.cue_row.specs.Row.{RefusesAsked, IsRow}
 
 -- bounds that refuse the same numbers below them are equal
 same_bound : (m n : ℕ) → ((k : ℕ) → k < m ↔ k < n) → m ≡ n
@@ -48,7 +48,7 @@ same_length (Some m) (Some n) e = ap (λ k. Some k) (same_upper_bound m n e)
 
 -- equal answers are equal rows
 pub same_rows : (a b : Row) → IsRow a → IsRow b
-    → ((question : Question) → Refuses a question ↔ Refuses b question) → a ≡ b
+    → ((question : Question) → RefusesAsked a question ↔ RefusesAsked b question) → a ≡ b
 same_rows a b p q e =
     let level =
     same_level a.level b.level

@@ -5,19 +5,19 @@ use Rattle.std.specs.List.{AllByRecursion}
 use Rattle.cue_lattice.specs.Limits.{length_limit}
 pub use Rattle.cue_lattice.specs.Word.{IsWord}
 use Rattle.cue_lattice.specs.Path.{Step, label, index}
-use Rattle.cue_scalars.specs.Scalars.{IsWithin}
+use Rattle.cue_scalars.specs.Scalars.{IsScalarsWithin}
 use Rattle.cue_row.specs.declared.parts.RowParts.{RowParts as Row}
 use Rattle.cue_row.specs.declared.kind.RowKind.{RowKind}
 use Rattle.cue_row.specs.declared.kind.RowKind.TheVariants as kinds
 use Rattle.cue_row.specs.declared.question.Question.{Question}
-use Rattle.cue_row.specs.Row.{Refuses}
-use Rattle.cue_row.specs.Kinds.{IsEmptySet, IsFullSet, IsKind}
+use Rattle.cue_row.specs.Row.{RefusesAsked}
+use Rattle.cue_row.specs.Kinds.{IsEmptySet, IsFullSet, IsRowKind}
 
 -- Usual are all scalars at a free place, some of those that may stand where scalars do, and none
 -- elsewhere.
 abbrev pub UsualFits : Row → RowKind → Type 0
 UsualFits row kinds.Free = IsFullSet row.usual
-UsualFits row kinds.Scalar = IsWithin row.usual row.value
+UsualFits row kinds.Scalar = IsScalarsWithin row.usual row.value
 UsualFits row kinds.Struct = IsEmptySet row.usual
 UsualFits row kinds.List = IsEmptySet row.usual
 UsualFits row kinds.Nothing = IsEmptySet row.usual
@@ -64,10 +64,10 @@ pub record HasWords (row : Row) : Type 0 where
 -- the row is of a kind, fits it, keeps the limits, and is not free
 pub record IsValidRow (row : Row) : Type 0 where
   pub kind : RowKind
-  pub is_kind : IsKind row kind
+  pub is_kind : IsRowKind row kind
   pub usual : UsualFits row kind
   pub labels : LabelsFit row kind
   pub row_lengths : LengthsFit row kind
   pub limits : AreLengths row.least row.most
   pub texts : HasWords row
-  pub not_free : ((question : Question) → ¬ Refuses row question) → ⊥
+  pub not_free : ((question : Question) → ¬ RefusesAsked row question) → ⊥

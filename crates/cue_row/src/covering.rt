@@ -1,12 +1,12 @@
 //! Which rows refuse all that others refuse, but for levels, as far as a glance tells.
 ghost use Rattle.std.specs.Prelude.{◌≡◌, false, None, IsTrue};
 ghost use Rattle.cue_row.specs.declared.level.Level.{Level as Levels};
-ghost use Rattle.cue_row.specs.Inner.Covers.{Covers, IsOpenBelow, IsPieceWithin};
-ghost use Rattle.cue_row.specs.Kept.{small_parts, IsSmall};
+ghost use Rattle.cue_row.specs.Inner.Covers.{CoversRow, IsOpenBelow, IsPieceWithin};
+ghost use Rattle.cue_row.specs.Kept.{small_parts, IsSmallRow};
 ghost use Rattle.cue_row.specs.Kinds.{IsEmptySet};
 ghost use Rattle.cue_row.specs.Made.{at_level};
 
-use crate::row::Form;
+use crate::row::RowForm;
 use crate::small::Small;
 use crate::{Level, Row, RowParts};
 use cue_sets::IntSet;
@@ -15,13 +15,13 @@ impl Row {
     /// Whether the row is told at a glance to refuse all that the other refuses, but for levels.
     #[inline(always)]
     pub(crate) fn covers(&self, other: &Row) -> bool
-        ensures { IsTrue result → Covers self.now other.now }
+        ensures { IsTrue result → CoversRow self.now other.now }
     {
         match (&self.form, &other.form) {
-            (Form::Small(_, small), Form::Small(_, other)) => small.covers(other),
-            (Form::Small(_, small), Form::Whole(_, other)) => small.covers_parts(other),
-            (Form::Whole(_, parts), Form::Small(_, other)) => parts.cover_small(other),
-            (Form::Whole(_, parts), Form::Whole(_, other)) => parts.cover(other),
+            (RowForm::Small(_, small), RowForm::Small(_, other)) => small.covers(other),
+            (RowForm::Small(_, small), RowForm::Whole(_, other)) => small.covers_parts(other),
+            (RowForm::Whole(_, parts), RowForm::Small(_, other)) => parts.cover_small(other),
+            (RowForm::Whole(_, parts), RowForm::Whole(_, other)) => parts.cover(other),
         }
     }
 }
@@ -29,10 +29,10 @@ impl Row {
 impl Small {
     /// Whether it is told at a glance to refuse all that another small one refuses.
     fn covers(&self, other: &Small) -> bool
-        requires left { IsSmall self.now }
-        requires right { IsSmall other.now }
+        requires left { IsSmallRow self.now }
+        requires right { IsSmallRow other.now }
         ensures { IsTrue result → (a b : Levels) →
-            Covers (small_parts a self.now) (small_parts b other.now) }
+            CoversRow (small_parts a self.now) (small_parts b other.now) }
     {
         match (self, other) {
             (_, Small::Anything) => true,
@@ -44,9 +44,9 @@ impl Small {
 
     /// Whether it is told at a glance to refuse all that these parts refuse, but for levels.
     fn covers_parts(&self, parts: &RowParts) -> bool
-        requires { IsSmall self.now }
+        requires { IsSmallRow self.now }
         ensures { IsTrue result → (a b : Levels) →
-            Covers (small_parts a self.now) (at_level b parts.now) }
+            CoversRow (small_parts a self.now) (at_level b parts.now) }
     {
         if !parts.are_open_below() {
             return false;
@@ -72,7 +72,7 @@ impl RowParts {
     /// so where they let no scalar stand, and the others any label.
     fn cover(&self, other: &RowParts) -> bool
         ensures { IsTrue result → (a b : Levels) →
-            Covers (at_level a self.now) (at_level b other.now) }
+            CoversRow (at_level a self.now) (at_level b other.now) }
     {
         if !self.is_form_within(Level::Given, other) {
             return false;
@@ -89,7 +89,7 @@ impl RowParts {
     /// Whether they are told at a glance to refuse all that a small one refuses, but for levels.
     fn cover_small(&self, small: &Small) -> bool
         ensures { IsTrue result → (a b : Levels) →
-            Covers (at_level a self.now) (small_parts b small.now) }
+            CoversRow (at_level a self.now) (small_parts b small.now) }
     {
         match small {
             Small::Anything => true,

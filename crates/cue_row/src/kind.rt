@@ -1,12 +1,12 @@
 ghost use Rattle.std.specs.Prelude.{◌≡◌, ◌↔◌, ◌&&◌, false, not, IfOk, IfSome, IfNone, IsTrue};
 ghost use Rattle.cue_lattice.specs.declared.scalar.Scalar.{Scalar as Scalars};
 ghost use Rattle.cue_row.specs.declared.kind.RowKind.{RowKind as Kinds};
-ghost use Rattle.cue_row.specs.Chosen.{IsChosen};
-ghost use Rattle.cue_row.specs.Kinds.{IsEmptySet, IsFullSet, IsKind};
+ghost use Rattle.cue_row.specs.Chosen.{IsRowChosen};
+ghost use Rattle.cue_row.specs.Kinds.{IsEmptySet, IsFullSet, IsRowKind};
 ghost use Rattle.cue_row.specs.declared.small.Small.TheVariants.{Anything};
 ghost use Rattle.cue_scalars.specs.Scalars.{members, IsFirstScalar};
 
-use crate::row::Form;
+use crate::row::RowForm;
 use crate::small::Small;
 use crate::{Row, RowParts};
 use cue_lattice::{Memory, Scalar};
@@ -33,8 +33,8 @@ impl Row {
     /// of things stand, but not all, has none.
     #[inline(always)]
     pub fn kind(&self) -> Option<RowKind>
-        ensures some { IfSome result (IsKind self.now) }
-        ensures none { IfNone result ((kind : Kinds) → ¬ IsKind self.now kind) }
+        ensures some { IfSome result (IsRowKind self.now) }
+        ensures none { IfNone result ((kind : Kinds) → ¬ IsRowKind self.now kind) }
     {
         match (self.struct_ok(), self.list_ok()) {
             (true, true) => {
@@ -67,17 +67,17 @@ impl Row {
     /// The chosen scalar: the only usual one, or, where no scalar is usual, the only one that may
     /// stand. This takes memory only for a text.
     pub fn chosen(&self, alloc: Global) -> Result<Option<Scalar>, Memory>
-        ensures some { IfOk result (λ found. IfSome found (IsChosen self.now)) }
+        ensures some { IfOk result (λ found. IfSome found (IsRowChosen self.now)) }
         ensures none { IfOk result (λ found. IfNone found
-            ((scalar : Scalars) → ¬ IsChosen self.now scalar)) }
+            ((scalar : Scalars) → ¬ IsRowChosen self.now scalar)) }
     {
         match &self.form {
-            Form::Small(_, Small::Integers((first, last))) if first == last => {
+            RowForm::Small(_, Small::Integers((first, last))) if first == last => {
                 Ok(Some(Scalar::Int(*first)))
             }
-            Form::Small(_, Small::Text(text)) => Ok(Some(Scalar::Text(text.copy(alloc)?))),
-            Form::Small(level, small) => small.parts(alloc, *level)?.chosen(alloc),
-            Form::Whole(_, parts) => parts.chosen(alloc),
+            RowForm::Small(_, Small::Text(text)) => Ok(Some(Scalar::Text(text.copy(alloc)?))),
+            RowForm::Small(level, small) => small.parts(alloc, *level)?.chosen(alloc),
+            RowForm::Whole(_, parts) => parts.chosen(alloc),
         }
     }
 
@@ -89,19 +89,19 @@ impl Row {
             ((scalar : Scalars) → members self.now.value scalar ≡ false)) }
     {
         match &self.form {
-            Form::Small(level, small) => small.parts(alloc, *level)?.value.first(alloc),
-            Form::Whole(_, parts) => parts.value.first(alloc),
+            RowForm::Small(level, small) => small.parts(alloc, *level)?.value.first(alloc),
+            RowForm::Whole(_, parts) => parts.value.first(alloc),
         }
     }
 
     /// The scalars that may stand and are not usual.
-    pub fn unusual(&self, alloc: Global) -> Result<ScalarSet, Memory>
+    pub fn without_usual(&self, alloc: Global) -> Result<ScalarSet, Memory>
         ensures { IfOk result (λ set. (scalar : Scalars) → members set scalar
             ≡ (members self.now.value scalar && not (members self.now.usual scalar))) }
     {
         match &self.form {
-            Form::Small(_, _) => Ok(ScalarSet::empty(alloc)),
-            Form::Whole(_, parts) => parts.value.without(alloc, &parts.usual),
+            RowForm::Small(_, _) => Ok(ScalarSet::empty(alloc)),
+            RowForm::Whole(_, parts) => parts.value.without(alloc, &parts.usual),
         }
     }
 
@@ -132,9 +132,9 @@ impl Small {
 impl RowParts {
     /// The chosen scalar.
     pub(crate) fn chosen(&self, alloc: Global) -> Result<Option<Scalar>, Memory>
-        ensures some { IfOk result (λ found. IfSome found (IsChosen self.now)) }
+        ensures some { IfOk result (λ found. IfSome found (IsRowChosen self.now)) }
         ensures none { IfOk result (λ found. IfNone found
-            ((scalar : Scalars) → ¬ IsChosen self.now scalar)) }
+            ((scalar : Scalars) → ¬ IsRowChosen self.now scalar)) }
     {
         if self.usual.is_empty() {
             return self.value.single(alloc);

@@ -12,11 +12,11 @@ use std::marker::Model;
 /// Which labels may stand directly below a place: all, or a finite set. Contracts see nothing where
 /// all may stand, and otherwise the list of those that may, strictly ascending by their bytes.
 #[derive(Debug, Drop)]
-pub struct Labels {
+pub struct LabelSet {
     set: TextSet,
 }
 
-impl Model for Labels {
+impl Model for LabelSet {
     ghost use Rattle.std.specs.Prelude.{Option, List, ℕ};
     ghost use Rattle.cue_row.specs.LabelSets.{labels_of, IsLabelSet};
 
@@ -27,24 +27,24 @@ impl Model for Labels {
     ghost invariant = { λ labels. IsLabelSet labels.set };
 }
 
-impl Labels {
+impl LabelSet {
     /// All labels. This takes no memory.
-    pub fn all(alloc: Global) -> Labels
+    pub fn all(alloc: Global) -> LabelSet
         ensures { result ≡ None }
     {
-        Labels {
+        LabelSet {
             set: TextSet::all(alloc),
         }
     }
 
     /// These labels alone, where they ascend strictly by their bytes. This takes no memory.
-    pub fn listing(labels: Vec<Text>) -> Option<Labels>
+    pub fn listing(labels: Vec<Text>) -> Option<LabelSet>
         ensures some { IfSome result (λ set. set ≡ Some labels.items) }
         ensures none { IfNone result (¬ IsAscending labels.items) }
     {
         match TextSet::from_texts(false, labels) {
             None => None,
-            Some(set) => Some(Labels { set }),
+            Some(set) => Some(LabelSet { set }),
         }
     }
 
@@ -66,7 +66,7 @@ impl Labels {
 }
 
 /// The labels that may not stand are refused.
-impl Narrow for Labels {
+impl Narrow for LabelSet {
     ghost use Rattle.std.specs.Prelude.{◌≡◌, ℕ, List, ◌↔◌};
     ghost use Rattle.cue_row.specs.LabelSets.{RefusesLabel, AreLabels};
     ghost use Rattle.cue_row.specs.LabelLaws.{same_labels};
@@ -79,26 +79,26 @@ impl Narrow for Labels {
 
     ghost exact = { same_labels };
 
-    fn free(alloc: Global) -> Result<Labels, Memory> {
-        Ok(Labels::all(alloc))
+    fn free(alloc: Global) -> Result<LabelSet, Memory> {
+        Ok(LabelSet::all(alloc))
     }
 
     fn is_free(&self) -> bool {
         self.set.is_free()
     }
 
-    fn meet(&self, alloc: Global, other: &Labels) -> Result<Labels, Memory> {
+    fn meet(&self, alloc: Global, other: &LabelSet) -> Result<LabelSet, Memory> {
         let set = Narrow::meet(&self.set, alloc, &other.set)?;
         set.known();
-        Ok(Labels { set })
+        Ok(LabelSet { set })
     }
 
-    fn same(&self, other: &Labels) -> bool {
+    fn same(&self, other: &LabelSet) -> bool {
         self.set.same(&other.set)
     }
 
-    fn copy(&self, alloc: Global) -> Result<Labels, Memory> {
-        Ok(Labels {
+    fn copy(&self, alloc: Global) -> Result<LabelSet, Memory> {
+        Ok(LabelSet {
             set: self.set.copy(alloc)?,
         })
     }

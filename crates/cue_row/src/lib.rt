@@ -20,7 +20,7 @@ mod valid;
 pub use cue_lattice::{Memory, Narrow, Narrowed, Scalar, Text};
 pub use cue_scalars::ScalarSet;
 pub use kind::RowKind;
-pub use labels::Labels;
+pub use labels::LabelSet;
 pub use level::Level;
 pub use parts::RowParts;
 pub use path::Path;

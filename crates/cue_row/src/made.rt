@@ -4,7 +4,7 @@ ghost use Rattle.std.specs.Prelude.{◌≡◌, ◌≤ℤ◌, IfOk};
 ghost use Rattle.cue_row.specs.Made.{empty_set, full_set};
 
 use crate::small::Small;
-use crate::{Labels, Level, Row, RowParts};
+use crate::{LabelSet, Level, Row, RowParts};
 use cue_lattice::{Memory, Narrow, Text};
 use cue_scalars::ScalarSet;
 use cue_sets::{IntSet, TextSet};
@@ -102,7 +102,7 @@ impl Row {
 
     /// The row of a place where a struct alone may stand, with these labels. Where all may stand
     /// below this takes no memory.
-    pub fn of_struct(alloc: Global, level: Level, labels: Labels) -> Result<Row, Memory>
+    pub fn of_struct(alloc: Global, level: Level, labels: LabelSet) -> Result<Row, Memory>
         ensures { IfOk result (λ row. row ≡ struct_row level labels) }
     {
         if labels.listed().is_none() {
@@ -127,7 +127,7 @@ impl Row {
     pub fn of_nothing(
         alloc: Global,
         level: Level,
-        labels: Labels,
+        labels: LabelSet,
         least: u32,
         most: Option<u32>,
     ) -> Result<Row, Memory>
@@ -154,7 +154,7 @@ impl RowParts {
             usual: all_scalars(alloc),
             struct_ok: true,
             list_ok: true,
-            labels: Labels::all(alloc),
+            labels: LabelSet::all(alloc),
             least: 0,
             most: None,
         }
@@ -175,14 +175,14 @@ impl RowParts {
             usual,
             struct_ok: false,
             list_ok: false,
-            labels: Labels::all(alloc),
+            labels: LabelSet::all(alloc),
             least: 0,
             most: None,
         }
     }
 
     /// The parts of a place where a struct alone may stand, with these labels.
-    pub(crate) fn of_struct(alloc: Global, level: Level, labels: Labels) -> RowParts
+    pub(crate) fn of_struct(alloc: Global, level: Level, labels: LabelSet) -> RowParts
         ensures { result ≡ struct_row level labels }
     {
         RowParts {
@@ -207,7 +207,7 @@ impl RowParts {
             usual: no_scalar(alloc),
             struct_ok: false,
             list_ok: true,
-            labels: Labels::all(alloc),
+            labels: LabelSet::all(alloc),
             least,
             most,
         }
@@ -217,7 +217,7 @@ impl RowParts {
     pub(crate) fn of_nothing(
         alloc: Global,
         level: Level,
-        labels: Labels,
+        labels: LabelSet,
         least: u32,
         most: Option<u32>,
     ) -> RowParts

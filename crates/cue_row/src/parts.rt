@@ -2,7 +2,7 @@ ghost use Rattle.std.specs.Prelude.{◌≡◌, ◌↔◌, ◌⊎◌, ◌&&◌, �
 ghost use Rattle.cue_row.specs.Lengths.{RefusesLength};
 
 use crate::small::Small;
-use crate::{Labels, Level};
+use crate::{LabelSet, Level};
 use cue_lattice::{Memory, Narrow};
 use cue_scalars::ScalarSet;
 use std::alloc::Global;
@@ -21,7 +21,7 @@ pub struct RowParts {
     /// Whether a list may stand.
     pub list_ok: bool,
     /// Which labels may stand directly below.
-    pub labels: Labels,
+    pub labels: LabelSet,
     /// The least length of a list.
     pub least: u32,
     /// The greatest length of a list, where there is one.
@@ -31,11 +31,11 @@ pub struct RowParts {
 impl RowParts {
     ghost use Rattle.cue_row.specs.declared.question.Question.{Question as Questions};
     ghost use Rattle.cue_row.specs.Made.{at_level};
-    ghost use Rattle.cue_row.specs.Row.{Refuses, IsMetRow, IsRow};
+    ghost use Rattle.cue_row.specs.Row.{RefusesAsked, IsMetRow, IsRow};
 
     /// The parts that refuse nothing.
     pub fn free(alloc: Global) -> RowParts
-        ensures { (question : Questions) → ¬ Refuses result question }
+        ensures { (question : Questions) → ¬ RefusesAsked result question }
     {
         RowParts::of_anything(alloc, Level::Optional)
     }
@@ -56,12 +56,12 @@ impl RowParts {
         self.list_ok = both(self.list_ok, other.list_ok);
         labels.put_into(&mut self.labels);
         self.least = self.least.max(other.least);
-        self.most = smaller(self.most, other.most);
+        self.most = least_length(self.most, other.most);
         Ok(())
     }
 
     /// What these become at this level where others are unified into them. They stay as they are.
-    pub(crate) fn met(
+    pub(crate) fn meet_at(
         &self,
         alloc: Global,
         level: Level,
@@ -80,7 +80,7 @@ impl RowParts {
             list_ok: both(self.list_ok, other.list_ok),
             labels: labels.or_copy(alloc, &self.labels)?,
             least: self.least.max(other.least),
-            most: smaller(self.most, other.most),
+            most: least_length(self.most, other.most),
         })
     }
 
@@ -113,15 +113,15 @@ impl RowParts {
 impl RowParts {
     ghost use Rattle.cue_row.specs.declared.level.Level.{Level as Levels};
     ghost use Rattle.cue_row.specs.declared.question.Question.{Question as Questions};
-    ghost use Rattle.cue_row.specs.Kept.{small_parts, IsSmall};
+    ghost use Rattle.cue_row.specs.Kept.{small_parts, IsSmallRow};
     ghost use Rattle.cue_row.specs.Made.{at_level};
-    ghost use Rattle.cue_row.specs.Row.{Refuses};
+    ghost use Rattle.cue_row.specs.Row.{RefusesAsked};
 
     /// The small row of these parts, beside their level, where there is one.
     pub(crate) fn small(&self, alloc: Global) -> Result<Option<Small>, Memory>
         ensures parts { IfOk result (λ found. IfSome found
             (λ small. self.now ≡ small_parts self.now.level small)) }
-        ensures small { IfOk result (λ found. IfSome found IsSmall) }
+        ensures small { IfOk result (λ found. IfSome found IsSmallRow) }
     {
         self.value.known();
         self.usual.known();
@@ -156,7 +156,7 @@ impl RowParts {
     /// Whether they refuse nothing at this level.
     pub(crate) fn is_free_at(&self, level: Level) -> bool
         ensures { IsTrue result
-            ↔ ((question : Questions) → ¬ Refuses (at_level level self.now) question) }
+            ↔ ((question : Questions) → ¬ RefusesAsked (at_level level self.now) question) }
     {
         if !self.allows_all_forms(level) {
             return false;
@@ -208,7 +208,7 @@ fn both(left: bool, right: bool) -> bool
 }
 
 /// The smaller of two greatest lengths, where there is one.
-fn smaller(left: Option<u32>, right: Option<u32>) -> Option<u32>
+fn least_length(left: Option<u32>, right: Option<u32>) -> Option<u32>
     ensures { (n : ℕ) → RefusesLength result n ↔ (RefusesLength left n ⊎ RefusesLength right n) }
 {
     match (left, right) {

@@ -1,7 +1,7 @@
 ghost use Rattle.std.specs.Prelude.{◌≡◌};
 ghost use Rattle.cue_lattice.specs.Question as places;
 ghost use Rattle.cue_row.specs.declared.question.Question.{Question as Questions};
-ghost use Rattle.cue_row.specs.Questions.{question_of, asked_by};
+ghost use Rattle.cue_row.specs.Questions.{question_of, asked_by_question};
 
 use cue_lattice::{Scalar, Text};
 
@@ -29,6 +29,6 @@ pub enum Question {
 /// The questions of rows are just the questions of places: each is asked by one of these, and no
 /// two ask the same. It computes nothing: it states a law.
 pub fn one_question()
-    ensures asked { (question : places.Question) → question_of (asked_by question) ≡ question }
-    ensures back { (question : Questions) → asked_by (question_of question) ≡ question }
+    ensures asked { (question : places.Question) → question_of (asked_by_question question) ≡ question }
+    ensures back { (question : Questions) → asked_by_question (question_of question) ≡ question }
 {}

@@ -4,13 +4,13 @@ ghost use Rattle.std.specs.List.{flat_map, list_all};
 ghost use Rattle.std.specs.Str.{chars};
 ghost use Rattle.cue_row.specs.Begun.{StillBegins};
 ghost use Rattle.cue_row.specs.Inner.Quoted.{is_plain_byte};
-ghost use Rattle.cue_row.specs.Quoted.{quoted, char_text};
+ghost use Rattle.cue_row.specs.Quoted.{quote_text, char_text};
 
 use cue_lattice::Memory;
 
 /// Writes a text between quotation marks, with the escapes of a CUE string literal.
 pub fn push_quoted(out: &mut String, text: &str) -> Result<(), Memory>
-    ensures written { OnOk result (string_bytes out.new ≡ string_bytes out.old ++ quoted text.now) }
+    ensures written { OnOk result (string_bytes out.new ≡ string_bytes out.old ++ quote_text text.now) }
     // Where memory runs out, what stood there before still begins the text.
     ensures kept { OnErr result (StillBegins (string_bytes out.old) (string_bytes out.new)) }
 {

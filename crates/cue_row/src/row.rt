@@ -2,11 +2,11 @@ ghost use Rattle.std.specs.Prelude.{◌≡◌, ◌↔◌, max, IfOk, IfSome, IsT
 ghost use Rattle.std.specs.Option.{option_map};
 ghost use Rattle.cue_row.specs.LabelSets.{allows_label, AreLabels};
 ghost use Rattle.cue_row.specs.Made.{at_level};
-ghost use Rattle.cue_row.specs.Row.{IsMetRow, Refuses};
+ghost use Rattle.cue_row.specs.Row.{IsMetRow, RefusesAsked};
 ghost use Rattle.cue_lattice.specs.Narrowed.{IsNarrowedBy};
 
 use crate::small::Small;
-use crate::{Labels, Level, Question, RowParts, Scalars};
+use crate::{LabelSet, Level, Question, RowParts, Scalars};
 use cue_lattice::{Memory, Narrow, Narrowed, Text};
 use cue_sets::are_same;
 use std::alloc::Global;
@@ -15,7 +15,7 @@ use std::rc::Rc;
 
 /// How a row is kept.
 #[derive(Debug, Drop)]
-pub(crate) enum Form {
+pub(crate) enum RowForm {
     /// In the value itself.
     Small(Level, Small),
     /// Part by part, which copies share. The level of the parts says nothing.
@@ -30,23 +30,23 @@ pub(crate) enum Form {
 /// texts, or some of null, false and true. Others are shared by their copies.
 #[derive(Debug, Drop)]
 pub struct Row {
-    pub(crate) form: Form,
+    pub(crate) form: RowForm,
 }
 
 impl Model for Row {
     ghost use Rattle.cue_row.specs.declared.parts.RowParts.{RowParts as Parts};
-    ghost use Rattle.cue_row.specs.Kept.{parts_of, IsKept};
+    ghost use Rattle.cue_row.specs.Kept.{row_parts_of, IsSetKept};
 
     ghost Value = { Parts };
 
-    ghost view = { λ row. parts_of row.form };
+    ghost view = { λ row. row_parts_of row.form };
 
-    ghost invariant = { λ row. IsKept row.form };
+    ghost invariant = { λ row. IsSetKept row.form };
 }
 
 impl Row {
-    ghost use Rattle.cue_row.specs.Kept.{small_parts, IsSmall};
-    ghost use Rattle.cue_row.specs.Inner.Covers.{Covers};
+    ghost use Rattle.cue_row.specs.Kept.{small_parts, IsSmallRow};
+    ghost use Rattle.cue_row.specs.Inner.Covers.{CoversRow};
     ghost use Rattle.cue_row.specs.Levels.{level_of};
     ghost use Rattle.cue_row.specs.declared.parts.RowParts.{RowParts as Parts};
 
@@ -65,8 +65,8 @@ impl Row {
         ensures { IfOk result (λ parts. parts ≡ self) }
     {
         match self.form {
-            Form::Small(level, small) => small.parts(alloc, level),
-            Form::Whole(level, parts) => match Rc::try_unwrap(parts) {
+            RowForm::Small(level, small) => small.parts(alloc, level),
+            RowForm::Whole(level, parts) => match Rc::try_unwrap(parts) {
                 Ok(parts) => Ok(parts.at_level(level)),
                 Err(shared) => Ok(shared.copy(alloc)?.at_level(level)),
             },
@@ -79,7 +79,7 @@ impl Row {
         ensures { result ≡ self.now.level }
     {
         match &self.form {
-            Form::Small(level, _) | Form::Whole(level, _) => *level,
+            RowForm::Small(level, _) | RowForm::Whole(level, _) => *level,
         }
     }
 
@@ -89,9 +89,9 @@ impl Row {
         ensures { result ≡ at_level level self }
     {
         match self.form {
-            Form::Small(_, small) => Row::small(level, small),
-            Form::Whole(_, parts) => Row {
-                form: Form::Whole(level, parts),
+            RowForm::Small(_, small) => Row::small(level, small),
+            RowForm::Whole(_, parts) => Row {
+                form: RowForm::Whole(level, parts),
             },
         }
     }
@@ -101,8 +101,8 @@ impl Row {
         ensures { result ≡ self.now.value }
     {
         match &self.form {
-            Form::Small(_, small) => small.scalars(),
-            Form::Whole(_, parts) => Scalars::of(&parts.value),
+            RowForm::Small(_, small) => small.scalars(),
+            RowForm::Whole(_, parts) => Scalars::of(&parts.value),
         }
     }
 
@@ -111,8 +111,8 @@ impl Row {
         ensures { result ≡ self.now.usual }
     {
         match &self.form {
-            Form::Small(_, small) => small.scalars(),
-            Form::Whole(_, parts) => Scalars::of(&parts.usual),
+            RowForm::Small(_, small) => small.scalars(),
+            RowForm::Whole(_, parts) => Scalars::of(&parts.usual),
         }
     }
 
@@ -121,8 +121,8 @@ impl Row {
         ensures { result ≡ self.now.struct_ok }
     {
         match &self.form {
-            Form::Small(_, small) => matches!(small, Small::Anything | Small::Struct),
-            Form::Whole(_, parts) => parts.struct_ok,
+            RowForm::Small(_, small) => matches!(small, Small::Anything | Small::Struct),
+            RowForm::Whole(_, parts) => parts.struct_ok,
         }
     }
 
@@ -131,8 +131,8 @@ impl Row {
         ensures { result ≡ self.now.list_ok }
     {
         match &self.form {
-            Form::Small(_, small) => matches!(small, Small::Anything),
-            Form::Whole(_, parts) => parts.list_ok,
+            RowForm::Small(_, small) => matches!(small, Small::Anything),
+            RowForm::Whole(_, parts) => parts.list_ok,
         }
     }
 
@@ -142,8 +142,8 @@ impl Row {
         ensures ascending { AreLabels self.now.labels }
     {
         match &self.form {
-            Form::Small(_, _) => None,
-            Form::Whole(_, parts) => parts.labels.listed(),
+            RowForm::Small(_, _) => None,
+            RowForm::Whole(_, parts) => parts.labels.listed(),
         }
     }
 
@@ -152,8 +152,8 @@ impl Row {
         ensures { result ≡ allows_label self.now.labels label.now }
     {
         match &self.form {
-            Form::Small(_, _) => true,
-            Form::Whole(_, parts) => parts.labels.allows(label),
+            RowForm::Small(_, _) => true,
+            RowForm::Whole(_, parts) => parts.labels.allows(label),
         }
     }
 
@@ -162,8 +162,8 @@ impl Row {
         ensures { result ≡ self.now.least }
     {
         match &self.form {
-            Form::Small(_, _) => 0,
-            Form::Whole(_, parts) => parts.least,
+            RowForm::Small(_, _) => 0,
+            RowForm::Whole(_, parts) => parts.least,
         }
     }
 
@@ -172,18 +172,18 @@ impl Row {
         ensures { result ≡ self.now.most }
     {
         match &self.form {
-            Form::Small(_, _) => None,
-            Form::Whole(_, parts) => parts.most,
+            RowForm::Small(_, _) => None,
+            RowForm::Whole(_, parts) => parts.most,
         }
     }
 
     /// A small row of this level.
     pub(crate) fn small(level: Level, small: Small) -> Row
-        requires { IsSmall small }
+        requires { IsSmallRow small }
         ensures { result ≡ small_parts level small }
     {
         Row {
-            form: Form::Small(level, small),
+            form: RowForm::Small(level, small),
         }
     }
 
@@ -192,7 +192,7 @@ impl Row {
         ensures { IfOk result (λ row. row ≡ parts) }
     {
         Ok(Row {
-            form: Form::Whole(parts.level, Rc::new(alloc, parts)?),
+            form: RowForm::Whole(parts.level, Rc::new(alloc, parts)?),
         })
     }
 
@@ -201,7 +201,7 @@ impl Row {
         ensures { IsTrue result → self.now ≡ other.now }
     {
         match (&self.form, &other.form) {
-            (Form::Small(left, small), Form::Small(right, other)) => {
+            (RowForm::Small(left, small), RowForm::Small(right, other)) => {
                 left.same(*right) && small.same(other)
             }
             _ => false,
@@ -212,7 +212,8 @@ impl Row {
     fn meet_small(&self, alloc: Global, other: &Row) -> Result<Option<Row>, Memory>
         ensures { IfOk result (λ found. IfSome found (IsMetRow self.now other.now)) }
     {
-        let (Form::Small(left, small), Form::Small(right, other)) = (&self.form, &other.form) else {
+        let (RowForm::Small(left, small), RowForm::Small(right, other)) = (&self.form, &other.form)
+        else {
             return Ok(None);
         };
         match small.meet(alloc, other)? {
@@ -222,10 +223,10 @@ impl Row {
     }
 
     /// What the row becomes that changes in its level alone.
-    fn raised(&self, alloc: Global, level: Level) -> Result<Narrowed<Row>, Memory>
-        ensures { (other : Parts) → Covers self.now other
+    fn raise_to(&self, alloc: Global, level: Level) -> Result<Narrowed<Row>, Memory>
+        ensures { (other : Parts) → CoversRow self.now other
             → level_of level ≡ max (level_of self.now.level) (level_of other.level)
-            → IfOk result (IsNarrowedBy Refuses self.now other) }
+            → IfOk result (IsNarrowedBy RefusesAsked self.now other) }
     {
         if level.same(self.level()) {
             return Ok(Narrowed::Unchanged);
@@ -238,8 +239,8 @@ impl Row {
         ensures { self.new ≡ at_level level self.old }
     {
         match &mut self.form {
-            Form::Small(old, _) => *old = level,
-            Form::Whole(old, _) => *old = level,
+            RowForm::Small(old, _) => *old = level,
+            RowForm::Whole(old, _) => *old = level,
         }
     }
 
@@ -249,8 +250,10 @@ impl Row {
     {
         let other = other.into_parts(alloc)?;
         let met = match &self.form {
-            Form::Small(level, small) => small.parts(alloc, *level)?.met(alloc, *level, other)?,
-            Form::Whole(level, parts) => parts.met(alloc, *level, other)?,
+            RowForm::Small(level, small) => small
+                .parts(alloc, *level)?
+                .meet_at(alloc, *level, other)?,
+            RowForm::Whole(level, parts) => parts.meet_at(alloc, *level, other)?,
         };
         Row::from_parts(alloc, met)
     }
@@ -259,7 +262,7 @@ impl Row {
     fn shrink(&mut self, alloc: Global)
         ensures { self.new ≡ self.old }
     {
-        let Form::Whole(level, parts) = &self.form else {
+        let RowForm::Whole(level, parts) = &self.form else {
             return;
         };
         if let Ok(Some(small)) = parts.small(alloc) {
@@ -270,12 +273,12 @@ impl Row {
 
 /// A row refuses what its parts refuse.
 impl Narrow for Row {
-    ghost use Rattle.cue_row.specs.Row.{Refuses, IsRow};
+    ghost use Rattle.cue_row.specs.Row.{RefusesAsked, IsRow};
     ghost use Rattle.cue_row.specs.RowLaws.{same_rows};
 
     type Question = Question;
 
-    ghost refuses = { Refuses };
+    ghost refuses = { RefusesAsked };
 
     ghost is_value = { IsRow };
 
@@ -288,8 +291,8 @@ impl Narrow for Row {
     #[inline(always)]
     fn is_free(&self) -> bool {
         match &self.form {
-            Form::Small(level, small) => level.same(Level::Optional) && small.is_anything(),
-            Form::Whole(level, parts) => parts.is_free_at(*level),
+            RowForm::Small(level, small) => level.same(Level::Optional) && small.is_anything(),
+            RowForm::Whole(level, parts) => parts.is_free_at(*level),
         }
     }
 
@@ -303,7 +306,7 @@ impl Narrow for Row {
     fn narrowed_by(&self, alloc: Global, other: Row) -> Result<Narrowed<Row>, Memory> {
         let level = self.level().greater(other.level());
         if self.covers(&other) {
-            return self.raised(alloc, level);
+            return self.raise_to(alloc, level);
         }
         if other.covers(self) {
             return Ok(Narrowed::To(other.at_level(level)));
@@ -328,7 +331,7 @@ impl Narrow for Row {
             *self = other.at_level(level);
             return Ok(());
         }
-        if let Form::Whole(level, parts) = &mut self.form {
+        if let RowForm::Whole(level, parts) = &mut self.form {
             if let Some(parts) = Rc::get_mut(parts) {
                 let other = other.into_parts(alloc)?;
                 parts.level = *level;
@@ -360,17 +363,17 @@ impl Narrow for Row {
 
     fn copy(&self, alloc: Global) -> Result<Row, Memory> {
         match &self.form {
-            Form::Small(level, small) => Ok(Row::small(*level, small.copy(alloc)?)),
-            Form::Whole(level, parts) => Ok(Row {
-                form: Form::Whole(*level, Rc::clone(parts)?),
+            RowForm::Small(level, small) => Ok(Row::small(*level, small.copy(alloc)?)),
+            RowForm::Whole(level, parts) => Ok(Row {
+                form: RowForm::Whole(*level, Rc::clone(parts)?),
             }),
         }
     }
 
     fn known(&self) {
         match &self.form {
-            Form::Small(_, _) => {}
-            Form::Whole(_, parts) => parts.known(),
+            RowForm::Small(_, _) => {}
+            RowForm::Whole(_, parts) => parts.known(),
         }
     }
 }

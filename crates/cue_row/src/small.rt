@@ -4,11 +4,11 @@ ghost use Rattle.cue_sets.specs.Pieces.{IsCanonical};
 ghost use Rattle.cue_sets.specs.Texts.{IsAscending};
 ghost use Rattle.cue_row.specs.Seen.{set_of};
 ghost use Rattle.cue_row.specs.declared.level.Level.{Level as Levels};
-ghost use Rattle.cue_row.specs.Kept.{few_set, integers_set, text_set, small_parts, IsSmall};
+ghost use Rattle.cue_row.specs.Kept.{few_set, integers_set, text_set, small_parts, IsSmallRow};
 ghost use Rattle.cue_row.specs.Inner.Kept.{IsMetSmall};
 ghost use Rattle.cue_row.specs.Made.{lone_row};
 
-use crate::{Labels, Level, RowParts, Scalars};
+use crate::{LabelSet, Level, RowParts, Scalars};
 use cue_lattice::{Memory, Narrow, Text};
 use cue_scalars::ScalarSet;
 use cue_sets::{IntSet, TextSet};
@@ -46,7 +46,7 @@ impl Small {
     pub(crate) fn of_scalars(alloc: Global, set: &ScalarSet) -> Result<Option<Small>, Memory>
         ensures parts { IfOk result (λ found. IfSome found (λ small. (level : Levels) →
             small_parts level small ≡ lone_row level set.now)) }
-        ensures small { IfOk result (λ found. IfSome found IsSmall) }
+        ensures small { IfOk result (λ found. IfSome found IsSmallRow) }
     {
         let (all_but, texts) = set.texts.listed();
         match (set.ints.pieces(), texts) {
@@ -64,10 +64,10 @@ impl Small {
 
     /// The unification, where it is small and found without parts.
     pub(crate) fn meet(&self, alloc: Global, other: &Small) -> Result<Option<Small>, Memory>
-        requires left { IsSmall self.now }
-        requires right { IsSmall other.now }
+        requires left { IsSmallRow self.now }
+        requires right { IsSmallRow other.now }
         ensures met { IfOk result (λ found. IfSome found (IsMetSmall self.now other.now)) }
-        ensures small { IfOk result (λ found. IfSome found IsSmall) }
+        ensures small { IfOk result (λ found. IfSome found IsSmallRow) }
     {
         if self.same(other) {
             return Ok(Some(self.copy(alloc)?));
@@ -87,10 +87,10 @@ impl Small {
 
     /// The unification, where scalars alone may stand at both places.
     fn meet_scalars(&self, alloc: Global, other: &Small) -> Result<Option<Small>, Memory>
-        requires left { IsSmall self.now }
-        requires right { IsSmall other.now }
+        requires left { IsSmallRow self.now }
+        requires right { IsSmallRow other.now }
         ensures met { IfOk result (λ found. IfSome found (IsMetSmall self.now other.now)) }
-        ensures small { IfOk result (λ found. IfSome found IsSmall) }
+        ensures small { IfOk result (λ found. IfSome found IsSmallRow) }
     {
         let (Some(left), Some(right)) = (self.set(alloc)?, other.set(alloc)?) else {
             return Ok(None);
@@ -101,7 +101,7 @@ impl Small {
 
     /// The scalars that alone may stand, all of which are usual, where scalars stand.
     fn set(&self, alloc: Global) -> Result<Option<ScalarSet>, Memory>
-        requires { IsSmall self.now }
+        requires { IsSmallRow self.now }
         ensures { IfOk result (λ found. IfSome found (λ set. (level : Levels) →
             small_parts level self.now ≡ lone_row level set)) }
     {
@@ -128,7 +128,7 @@ impl Small {
 
     /// The scalars that may stand, all of which are usual.
     pub(crate) fn scalars(&self) -> Scalars
-        requires { IsSmall self.now }
+        requires { IsSmallRow self.now }
         ensures value { (level : Levels) → result ≡ (small_parts level self.now).value }
         ensures usual { (level : Levels) → result ≡ (small_parts level self.now).usual }
     {
@@ -143,8 +143,8 @@ impl Small {
                 all_but: few.texts,
                 texts: &[],
             },
-            Small::Integers(piece) => alone(slice::from_ref(piece), &[]),
-            Small::Text(text) => alone(&[], slice::from_ref(text)),
+            Small::Integers(piece) => scalars_of(slice::from_ref(piece), &[]),
+            Small::Text(text) => scalars_of(&[], slice::from_ref(text)),
         }
     }
 
@@ -165,13 +165,13 @@ impl Small {
 impl Small {
     /// All that a place of this level says. It takes memory only for a text.
     pub(crate) fn parts(&self, alloc: Global, level: Level) -> Result<RowParts, Memory>
-        requires { IsSmall self.now }
+        requires { IsSmallRow self.now }
         ensures { IfOk result (λ parts. parts ≡ small_parts level self.now) }
     {
         match self {
             Small::Anything => Ok(RowParts::of_anything(alloc, level)),
             Small::Struct => {
-                let labels = Labels::all(alloc);
+                let labels = LabelSet::all(alloc);
                 Ok(RowParts::of_struct(alloc, level, labels))
             }
             Small::Few(few) => {
@@ -210,7 +210,7 @@ impl Few {
 }
 
 /// The integers of some pieces, and some texts.
-fn alone<'a>(pieces: &'a [(i64, i64)], texts: &'a [Text]) -> Scalars<'a>
+fn scalars_of<'a>(pieces: &'a [(i64, i64)], texts: &'a [Text]) -> Scalars<'a>
     requires pieces { IsCanonical pieces.now }
     requires texts { IsAscending texts.now }
     ensures { result ≡ set_of (false, false, false) pieces.now (false, texts.now) }

@@ -2,7 +2,7 @@ ghost use Rattle.std.specs.Prelude.{◌≡◌, ◌++◌, map, IfOk, OnErr, OnOk,
 ghost use Rattle.std.specs.List.{flat_map};
 ghost use Rattle.cue_row.specs.Begun.{StillBegins};
 ghost use Rattle.cue_row.specs.PathText.{is_word_byte, is_bare, step_text, path_text};
-ghost use Rattle.cue_row.specs.Inner.PathText.{dotted};
+ghost use Rattle.cue_row.specs.Inner.PathText.{dot_and_step};
 ghost use Rattle.cue_row.specs.Steps.{step_of};
 
 use crate::quoted::push_quoted;
@@ -42,7 +42,7 @@ pub fn push_steps(out: &mut String, steps: &[Step]) -> Result<(), Memory>
 /// Writes a dot and the step, for each step.
 fn push_rest(out: &mut String, steps: &[Step]) -> Result<(), Memory>
     ensures written { OnOk result (string_bytes out.new
-        ≡ string_bytes out.old ++ flat_map dotted steps.now) }
+        ≡ string_bytes out.old ++ flat_map dot_and_step steps.now) }
     ensures kept { OnErr result (StillBegins (string_bytes out.old) (string_bytes out.new)) }
 {
     for step in steps {

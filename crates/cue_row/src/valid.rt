@@ -1,13 +1,13 @@
 ghost use Rattle.std.specs.Prelude.{◌↔◌, IsTrue};
 ghost use Rattle.cue_row.specs.Row.{IsMetRow, IsRow};
-ghost use Rattle.cue_scalars.specs.Scalars.{IsWithin};
+ghost use Rattle.cue_scalars.specs.Scalars.{IsScalarsWithin};
 ghost use Rattle.cue_row.specs.Steps.{step_of};
 ghost use Rattle.cue_row.specs.declared.parts.RowParts.{RowParts as RowValue};
 ghost use Rattle.cue_row.specs.ValidRow.{IsValidRow, UsualFits, LabelsFit, LengthsFit, AreLengths};
 ghost use Rattle.cue_row.specs.Inner.Forms.{IsFitRow};
 ghost use Rattle.cue_row.specs.ValidRow.{IsWord, AreWords, HasWords, IsWordStep};
 
-use crate::row::Form;
+use crate::row::RowForm;
 use crate::{Row, RowKind, Step};
 use cue_lattice::{LENGTH_LIMIT, Narrow, Text, WORD_LIMIT};
 
@@ -59,11 +59,11 @@ impl Row {
 
     /// Whether all usual scalars may stand.
     fn is_usual_within(&self) -> bool
-        ensures { IsTrue result ↔ IsWithin self.now.usual self.now.value }
+        ensures { IsTrue result ↔ IsScalarsWithin self.now.usual self.now.value }
     {
         match &self.form {
-            Form::Small(_, _) => true,
-            Form::Whole(_, parts) => parts.usual.is_within(&parts.value),
+            RowForm::Small(_, _) => true,
+            RowForm::Whole(_, parts) => parts.usual.is_within(&parts.value),
         }
     }
 

@@ -4,7 +4,7 @@ use Rattle.std.specs.Prelude.{IfNone}
 use Rattle.std.proofs.lemmas.Bool.{false≢true}
 use Rattle.cue_lattice.specs.declared.scalar.Scalar.{Scalar}
 use Rattle.cue_lattice.specs.declared.scalar.Scalar.TheVariants as scalars
-use Rattle.cue_sets.specs.Pieces.{is_member, IsCanonical, Refuses, IsOnlyMember}
+use Rattle.cue_sets.specs.Pieces.{is_member, IsCanonical, RefusesInteger, IsOnlyMember}
 use Rattle.cue_sets.specs.Texts.{is_text_member, RefusesText, IsOnlyText}
 use Rattle.cue_sets.specs.PieceLaws.{some_member}
 use Rattle.cue_sets.specs.TextLaws.{some_text, first_is_listed, is_listed-zeros, greatest_length, zeros}
@@ -136,7 +136,7 @@ all_parts true false c e = absurd (false≢true e)
 all_parts false b c e = absurd (false≢true e)
 
 -- a set that has null and both truth values and refuses no integer and no text refuses no scalar
-pub refuses_none : (set : ScalarSet) → (set.null && set.no && set.yes) ≡ true → ((n : ℤ) → ¬ Refuses set.ints n) → ((t : List ℕ) → ¬ RefusesText set.texts t) → (s : Scalar) → ¬ RefusesScalar set s
+pub refuses_none : (set : ScalarSet) → (set.null && set.no && set.yes) ≡ true → ((n : ℤ) → ¬ RefusesInteger set.ints n) → ((t : List ℕ) → ¬ RefusesText set.texts t) → (s : Scalar) → ¬ RefusesScalar set s
 refuses_none set p e f scalars.Null r = clash _ (all_parts set.null set.no set.yes p).0 r
 refuses_none set p e f (scalars.Bool false) r = clash _ (all_parts set.null set.no set.yes p).1 r
 refuses_none set p e f (scalars.Bool true) r = clash _ (all_parts set.null set.no set.yes p).2 r

@@ -6,7 +6,7 @@ use Rattle.cue_lattice.specs.declared.narrow.Narrowed.TheVariants.{Unchanged, To
 use Rattle.cue_lattice.specs.Narrowed.{IsNarrowedBy, value_after}
 use Rattle.cue_lattice.specs.declared.scalar.Scalar.{Scalar}
 use Rattle.cue_lattice.specs.declared.scalar.Scalar.TheVariants as scalars
-use Rattle.cue_sets.specs.Pieces.{Refuses}
+use Rattle.cue_sets.specs.Pieces.{RefusesInteger}
 use Rattle.cue_sets.specs.Texts.{RefusesText}
 use Rattle.cue_scalars.specs.declared.scalar_set.ScalarSet.{ScalarSet}
 use Rattle.cue_scalars.specs.Scalars.{RefusesScalar}
@@ -26,7 +26,7 @@ and_refuses false b m e = (λ h. inl refl, λ h. e)
 -- a set whose parts are met
 pub met_parts :
     (a b m : ScalarSet) → m.null ≡ (a.null && b.null) → m.no ≡ (a.no && b.no) → m.yes ≡ (a.yes && b.yes)
-    → ((n : ℤ) → Refuses m.ints n ↔ (Refuses a.ints n ⊎ Refuses b.ints n))
+    → ((n : ℤ) → RefusesInteger m.ints n ↔ (RefusesInteger a.ints n ⊎ RefusesInteger b.ints n))
     → ((t : List ℕ) → RefusesText m.texts t ↔ (RefusesText a.texts t ⊎ RefusesText b.texts t))
     → (x : Scalar) → RefusesScalar m x ↔ (RefusesScalar a x ⊎ RefusesScalar b x)
 met_parts a b m null_is no_is yes_is ints texts scalars.Null = and_refuses a.null b.null m.null null_is

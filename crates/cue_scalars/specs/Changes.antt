@@ -8,7 +8,7 @@ use Rattle.cue_scalars.specs.declared.scalar_set.ScalarSet.{ScalarSet}
 use Rattle.cue_scalars.specs.Scalars.{RefusesScalar}
 
 -- a change makes one set of another
-pub record IsChanged (change : ScalarChange) (before after : ScalarSet) : Type 0 where
+pub record IsScalarChanged (change : ScalarChange) (before after : ScalarSet) : Type 0 where
   pub null : after.null ≡ change.null
   pub no : after.no ≡ change.no
   pub yes : after.yes ≡ change.yes
@@ -16,8 +16,8 @@ pub record IsChanged (change : ScalarChange) (before after : ScalarSet) : Type 0
   pub texts : texts.IsChanged change.texts before.texts after.texts
 
 -- the set that a change makes refuses exactly what one of two sets does
-abbrev pub Unifies : ScalarChange → ScalarSet → ScalarSet → Type 0
-Unifies change before other =
-    (after : ScalarSet) → IsChanged change before after
+abbrev pub UnifiesScalars : ScalarChange → ScalarSet → ScalarSet → Type 0
+UnifiesScalars change before other =
+    (after : ScalarSet) → IsScalarChanged change before after
     → (scalar : Scalar)
     → RefusesScalar after scalar ↔ (RefusesScalar before scalar ⊎ RefusesScalar other scalar)

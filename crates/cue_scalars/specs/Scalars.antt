@@ -3,7 +3,7 @@ use Rattle.std.specs.Prelude.{◌≡◌, ℕ, Bool, true, false, ◌<◌, ◌<�
 use Rattle.std.specs.declared.cmp.Ordering.TheVariants.{Less}
 use Rattle.cue_lattice.specs.declared.scalar.Scalar.{Scalar}
 use Rattle.cue_lattice.specs.declared.scalar.Scalar.TheVariants as scalars
-use Rattle.cue_sets.specs.Pieces.{is_member, IsCanonical, Refuses}
+use Rattle.cue_sets.specs.Pieces.{is_member, IsCanonical, RefusesInteger}
 use Rattle.cue_sets.specs.Texts.{is_text_member, text_cmp, IsTextSet, RefusesText}
 use Rattle.cue_scalars.specs.declared.scalar_set.ScalarSet.{ScalarSet}
 
@@ -25,7 +25,7 @@ abbrev pub RefusesScalar : ScalarSet → Scalar → Type 0
 RefusesScalar set scalars.Null = set.null ≡ false
 RefusesScalar set (scalars.Bool false) = set.no ≡ false
 RefusesScalar set (scalars.Bool true) = set.yes ≡ false
-RefusesScalar set (scalars.Int n) = Refuses set.ints n
+RefusesScalar set (scalars.Int n) = RefusesInteger set.ints n
 RefusesScalar set (scalars.Text text) = RefusesText set.texts text
 
 -- the scalar is in the set, and no other is
@@ -42,16 +42,16 @@ kind (scalars.Int n) = 3
 kind (scalars.Text text) = 4
 
 -- one scalar comes before another: by kind, integers upwards, texts by their bytes
-abbrev pub IsBefore : Scalar → Scalar → Type 0
-IsBefore (scalars.Int m) (scalars.Int n) = m <ℤ n
-IsBefore (scalars.Text s) (scalars.Text t) = text_cmp s t ≡ Less
-IsBefore a b = kind a < kind b
+abbrev pub IsScalarBefore : Scalar → Scalar → Type 0
+IsScalarBefore (scalars.Int m) (scalars.Int n) = m <ℤ n
+IsScalarBefore (scalars.Text s) (scalars.Text t) = text_cmp s t ≡ Less
+IsScalarBefore a b = kind a < kind b
 
 -- the scalar is in the set, and no member comes before it
 pub record IsFirstScalar (set : ScalarSet) (scalar : Scalar) : Type 0 where
   pub member : members set scalar ≡ true
-  pub first : (other : Scalar) → members set other ≡ true → ¬ IsBefore other scalar
+  pub first : (other : Scalar) → members set other ≡ true → ¬ IsScalarBefore other scalar
 
 -- each member of the small set is one of the large set
-abbrev pub IsWithin : ScalarSet → ScalarSet → Type 0
-IsWithin small large = (scalar : Scalar) → members small scalar ≡ true → members large scalar ≡ true
+abbrev pub IsScalarsWithin : ScalarSet → ScalarSet → Type 0
+IsScalarsWithin small large = (scalar : Scalar) → members small scalar ≡ true → members large scalar ≡ true

@@ -6,8 +6,8 @@ ghost use Rattle.cue_lattice.specs.declared.scalar.Scalar.{Scalar};
 ghost use Rattle.cue_lattice.specs.declared.scalar.Scalar.TheVariants as scalars;
 ghost use Rattle.cue_scalars.specs.Scalars.{members, kind, IsOnlyScalar, IsFirstScalar};
 ghost use Rattle.cue_scalars.specs.Inner.Scalars.{only_of};
-ghost use Rattle.cue_scalars.specs.Scalars.{IsWithin};
-ghost use Rattle.cue_scalars.specs.Changes.{IsChanged, Unifies};
+ghost use Rattle.cue_scalars.specs.Scalars.{IsScalarsWithin};
+ghost use Rattle.cue_scalars.specs.Changes.{IsScalarChanged, UnifiesScalars};
 
 use crate::ScalarChange;
 use cue_lattice::{Memory, Narrow, Narrowed, Scalar, Text};
@@ -247,7 +247,7 @@ impl ScalarSet {
 
     /// Whether each member is one of the other set too. This takes no memory.
     pub fn is_within(&self, other: &ScalarSet) -> bool
-        ensures { IsTrue result ↔ IsWithin self.now other.now }
+        ensures { IsTrue result ↔ IsScalarsWithin self.now other.now }
     {
         if !self.is_plain_within(other) {
             return false;
@@ -260,7 +260,7 @@ impl ScalarSet {
 
     /// What becomes of this set where the other one is unified into it.
     pub fn change_by(&self, alloc: Global, other: ScalarSet) -> Result<ScalarChange, Memory>
-        ensures { IfOk result (λ change. Unifies change self.now other) }
+        ensures { IfOk result (λ change. UnifiesScalars change self.now other) }
     {
         let ScalarSet {
             null,
@@ -280,7 +280,7 @@ impl ScalarSet {
 
     /// Changes the set where it stands. This takes no memory.
     pub fn apply(&mut self, change: ScalarChange)
-        ensures { IsChanged change self.old self.new }
+        ensures { IsScalarChanged change self.old self.new }
     {
         let ScalarChange {
             null,

@@ -5,7 +5,7 @@ ghost use Rattle.std.specs.List.{list_any};
 ghost use Rattle.std.specs.Option.{ForSome};
 ghost use Rattle.std.specs.Result.{IsOk};
 ghost use Rattle.cue_scalars.specs.Pairs as joining;
-ghost use Rattle.cue_scalars.specs.Scalars.{members, IsWithin};
+ghost use Rattle.cue_scalars.specs.Scalars.{members, IsScalarsWithin};
 
 use crate::ScalarSet;
 use cue_lattice::{Memory, Narrow};
@@ -17,19 +17,19 @@ use std::alloc::Global;
 pub struct Valued {
     pub value: ScalarSet,
     pub usual: Option<ScalarSet>,
-    ghost within: { ForSome usual (λ default. IsWithin default value) },
+    ghost within: { ForSome usual (λ default. IsScalarsWithin default value) },
 }
 
 impl Valued {
-    ghost use Rattle.cue_scalars.specs.Pairs.{all_of, both, default_of, disjunction};
+    ghost use Rattle.cue_scalars.specs.Pairs.{all_of, unify_pairs, default_of, disjunction};
     ghost use Rattle.cue_scalars.specs.Inner.Pairs.{term_of};
-    ghost use Rattle.cue_scalars.specs.Values.{pair_of, terms_of};
+    ghost use Rattle.cue_scalars.specs.Values.{pair_of_value, terms_of_values};
     ghost use Rattle.cue_scalars.specs.Inner.Lists.{value_of, AreWithin};
 
     /// The unification `&`: values meet, and so do defaults, where a side without a default brings
     /// its value.
     pub fn and(self, alloc: Global, other: Valued) -> Result<Valued, Memory>
-        ensures { IfOk result (λ met. pair_of met ≡ both (pair_of self) (pair_of other)) }
+        ensures { IfOk result (λ met. pair_of_value met ≡ unify_pairs (pair_of_value self) (pair_of_value other)) }
     {
         if !self.has_default() && !other.has_default() {
             return self.and_plain(alloc, other);
@@ -40,7 +40,7 @@ impl Valued {
     /// The unification of one or more, which are taken over. More than two are unified at once.
     pub fn and_all(alloc: Global, values: Vec<Valued>) -> Result<Valued, Memory>
         requires { 0 < length values.items }
-        ensures { IfOk result (λ met. pair_of met ≡ all_of (map pair_of values.items)) }
+        ensures { IfOk result (λ met. pair_of_value met ≡ all_of (map pair_of_value values.items)) }
     {
         if values.len() <= 2 {
             return Valued::and_few(alloc, values);
@@ -55,7 +55,7 @@ impl Valued {
     pub fn copy(&self, alloc: Global) -> Result<Valued, Memory>
         ensures value { IfOk result (λ copied. copied.value ≡ self.now.value) }
         ensures usual { IfOk result (λ copied. copied.usual ≡ self.now.usual) }
-        ensures pair { IfOk result (λ copied. pair_of copied ≡ pair_of self.now) }
+        ensures pair { IfOk result (λ copied. pair_of_value copied ≡ pair_of_value self.now) }
     {
         let value = self.value.copy(alloc)?;
         match &self.usual {
@@ -73,13 +73,13 @@ impl Valued {
     /// The disjunction `|` of marked and unmarked terms, which are taken over. Of no terms it is
     /// the empty value without a default. All terms are united at once.
     pub fn or(alloc: Global, terms: Vec<(bool, Valued)>) -> Result<Valued, Memory>
-        ensures { IfOk result (λ all. pair_of all ≡ disjunction (terms_of terms.items)) }
+        ensures { IfOk result (λ all. pair_of_value all ≡ disjunction (terms_of_values terms.items)) }
     {
         let any_marked = is_any_marked(&terms);
         let (values, usuals) = Valued::split(alloc, any_marked, terms)?;
         Ok(Valued {
             value: ScalarSet::union_all(alloc, values)?,
-            usual: united(alloc, usuals)?,
+            usual: unite_defaults(alloc, usuals)?,
         })
     }
 
@@ -110,7 +110,7 @@ impl Valued {
     fn and_plain(self, alloc: Global, other: Valued) -> Result<Valued, Memory>
         requires left { is_some self.usual ≡ false }
         requires right { is_some other.usual ≡ false }
-        ensures { IfOk result (λ met. pair_of met ≡ both (pair_of self) (pair_of other)) }
+        ensures { IfOk result (λ met. pair_of_value met ≡ unify_pairs (pair_of_value self) (pair_of_value other)) }
     {
         Ok(Valued {
             value: self.value.into_meet(alloc, other.value)?,
@@ -121,7 +121,7 @@ impl Valued {
     /// The unification where a value has a default.
     fn and_usual(self, alloc: Global, other: Valued) -> Result<Valued, Memory>
         requires { (is_some self.usual || is_some other.usual) ≡ true }
-        ensures { IfOk result (λ met. pair_of met ≡ both (pair_of self) (pair_of other)) }
+        ensures { IfOk result (λ met. pair_of_value met ≡ unify_pairs (pair_of_value self) (pair_of_value other)) }
     {
         let (left, left_usual) = self.settle(alloc)?;
         let (right, right_usual) = other.settle(alloc)?;
@@ -137,7 +137,7 @@ impl Valued {
     fn and_few(alloc: Global, values: Vec<Valued>) -> Result<Valued, Memory>
         requires some { 0 < length values.items }
         requires few { length values.items ≤ 2 }
-        ensures { IfOk result (λ met. pair_of met ≡ all_of (map pair_of values.items)) }
+        ensures { IfOk result (λ met. pair_of_value met ≡ all_of (map pair_of_value values.items)) }
     {
         let mut rest = values.into_iter();
         let Some(first) = rest.next() else {
@@ -153,7 +153,7 @@ impl Valued {
     fn and_all_plain(alloc: Global, values: Vec<Valued>) -> Result<Valued, Memory>
         requires some { 0 < length values.items }
         requires plain { list_any (λ valued. is_some valued.usual) values.items ≡ false }
-        ensures { IfOk result (λ met. pair_of met ≡ all_of (map pair_of values.items)) }
+        ensures { IfOk result (λ met. pair_of_value met ≡ all_of (map pair_of_value values.items)) }
     {
         let mut sets = Vec::with_capacity(alloc, values.len())?;
         for valued in values {
@@ -169,7 +169,7 @@ impl Valued {
     fn and_all_usual(alloc: Global, values: Vec<Valued>) -> Result<Valued, Memory>
         requires some { 0 < length values.items }
         requires given { list_any (λ valued. is_some valued.usual) values.items ≡ true }
-        ensures { IfOk result (λ met. pair_of met ≡ all_of (map pair_of values.items)) }
+        ensures { IfOk result (λ met. pair_of_value met ≡ all_of (map pair_of_value values.items)) }
     {
         let mut sets = Vec::with_capacity(alloc, values.len())?;
         let mut usuals = Vec::with_capacity(alloc, values.len())?;
@@ -196,7 +196,7 @@ impl Valued {
         ensures values { IfOk result (λ sets.
             map members sets.0.items ≡ map value_of terms.items) }
         ensures usuals { IfOk result (λ sets. map members sets.1.items
-            ≡ filter_map (default_of any_marked) (terms_of terms.items)) }
+            ≡ filter_map (default_of any_marked) (terms_of_values terms.items)) }
         ensures within { IfOk result (λ sets. AreWithin sets.1.items sets.0.items) }
     {
         let mut values = Vec::with_capacity(alloc, terms.len())?;
@@ -213,7 +213,7 @@ impl Valued {
 
     /// What this value brings to a disjunction as a term, marked or not.
     fn into_term(self, alloc: Global, any_marked: bool, marked: bool) -> Result<Valued, Memory>
-        ensures { IfOk result (λ term. pair_of term ≡ term_of any_marked (marked, pair_of self)) }
+        ensures { IfOk result (λ term. pair_of_value term ≡ term_of any_marked (marked, pair_of_value self)) }
     {
         if !any_marked {
             return Ok(self);
@@ -233,9 +233,9 @@ impl Valued {
 }
 
 /// The union of defaults, where there are some.
-fn united(alloc: Global, usuals: Vec<ScalarSet>) -> Result<Option<ScalarSet>, Memory>
+fn unite_defaults(alloc: Global, usuals: Vec<ScalarSet>) -> Result<Option<ScalarSet>, Memory>
     ensures { IfOk result (λ usual.
-        option_map members usual ≡ joining.united (map members usuals.items)) }
+        option_map members usual ≡ joining.unite_defaults (map members usuals.items)) }
 {
     if usuals.is_empty() {
         return Ok(None);

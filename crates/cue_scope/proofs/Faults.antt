@@ -9,11 +9,11 @@ use Rattle.cue_syntax.specs.declared.tree.Identifier.{Identifier}
 use Rattle.cue_syntax.specs.declared.tree.Identifier.TheVariants as identifiers
 use Rattle.cue_syntax.specs.Syntax as tree
 use Rattle.cue_syntax.specs.Syntax.{Expression, Elements, no_elements, element, branch, Branches, no_branches, next_branch, ellipsis, field, definition, Entries, no_entries, entry}
-use Rattle.cue_scope.specs.Definitions.{Definition, definitions, number_of}
-use Rattle.cue_scope.specs.First.{IsFirst}
+use Rattle.cue_scope.specs.Definitions.{Definition, definitions, number_of_name}
+use Rattle.cue_scope.specs.First.{IsFirstName}
 use Rattle.cue_scope.specs.Named.{named_of, is_literal}
-use Rattle.cue_scope.specs.Names.{Scope, refuse, inside, behind, fault_of, fault_of_close, faults, faults_of_elements, faults_of_rest, faults_of_branches, faults_of_entries, name_faults}
-use Rattle.cue_scope.specs.Refusing.{IsUnrepeated, RefusesAs, Refuses}
+use Rattle.cue_scope.specs.Names.{Scope, refuse_name, scope_inside, scope_behind, fault_of_name, fault_of_close, faults, faults_of_elements, faults_of_rest, faults_of_branches, faults_of_entries, name_faults}
+use Rattle.cue_scope.specs.Refusing.{IsUnrepeated, RefusesAs, TextRefuses}
 
 IsOfNames : Kind → Type 0
 IsOfNames k = (k ≡ kinds.UnknownName) ⊎ (k ≡ kinds.FieldReference)
@@ -30,21 +30,21 @@ either : (b : Bool) (xs ys : List Refusal) → AreOfNames xs → AreOfNames ys �
 either true xs ys a c = a
 either false xs ys a c = c
 
-unknown : (place : ℕ) → AreOfNames (refuse kinds.UnknownName place)
+unknown : (place : ℕ) → AreOfNames (refuse_name kinds.UnknownName place)
 unfolding IsOfNames
 unknown place = (inl refl, tt)
 
-reference : (place : ℕ) → AreOfNames (refuse kinds.FieldReference place)
+reference : (place : ℕ) → AreOfNames (refuse_name kinds.FieldReference place)
 unfolding IsOfNames
 reference place = (inr refl, tt)
 
-of_name : (ds : List Definition) (scope : Scope) (n : Identifier) (place : ℕ) → AreOfNames (fault_of ds scope n place)
+of_name : (ds : List Definition) (scope : Scope) (n : Identifier) (place : ℕ) → AreOfNames (fault_of_name ds scope n place)
 of_name ds scope (identifiers.Plain t) place =
-    either (is_literal t) [] (cond (scope t) (refuse kinds.FieldReference place) (cond (is_some (named_of t)) [] (refuse kinds.UnknownName place))) tt
-    (either (scope t) (refuse kinds.FieldReference place) (cond (is_some (named_of t)) [] (refuse kinds.UnknownName place)) (reference place)
-    (either (is_some (named_of t)) [] (refuse kinds.UnknownName place) tt (unknown place)))
-of_name ds scope (identifiers.Definition t) place = either (is_some (number_of t ds)) [] (refuse kinds.UnknownName place) tt (unknown place)
-of_name ds scope (identifiers.Hidden t) place = either (bytes_eq t (codes "_")) [] (refuse kinds.UnknownName place) tt (unknown place)
+    either (is_literal t) [] (cond (scope t) (refuse_name kinds.FieldReference place) (cond (is_some (named_of t)) [] (refuse_name kinds.UnknownName place))) tt
+    (either (scope t) (refuse_name kinds.FieldReference place) (cond (is_some (named_of t)) [] (refuse_name kinds.UnknownName place)) (reference place)
+    (either (is_some (named_of t)) [] (refuse_name kinds.UnknownName place) tt (unknown place)))
+of_name ds scope (identifiers.Definition t) place = either (is_some (number_of_name t ds)) [] (refuse_name kinds.UnknownName place) tt (unknown place)
+of_name ds scope (identifiers.Hidden t) place = either (bytes_eq t (codes "_")) [] (refuse_name kinds.UnknownName place) tt (unknown place)
 
 mutual
   of_expression : (ds : List Definition) (scope : Scope) (e : Expression) → AreOfNames (faults ds scope e)
@@ -56,9 +56,9 @@ mutual
   of_expression ds scope (tree.other_integer n) = tt
   of_expression ds scope (tree.other_text t) = tt
   of_expression ds scope (tree.parenthesis e comma) = of_expression ds scope e
-  of_expression ds scope (tree.struct es comma) = of_entries ds (inside es scope) es
+  of_expression ds scope (tree.struct es comma) = of_entries ds (scope_inside es scope) es
   of_expression ds scope (tree.close place es inner comma) =
-      of_names (fault_of_close scope place) (faults_of_entries ds (inside es scope) es) (either (scope (codes "close")) (refuse kinds.FieldReference place) [] (reference place) tt) (of_entries ds (inside es scope) es)
+      of_names (fault_of_close scope place) (faults_of_entries ds (scope_inside es scope) es) (either (scope (codes "close")) (refuse_name kinds.FieldReference place) [] (reference place) tt) (of_entries ds (scope_inside es scope) es)
   of_expression ds scope (tree.list es rest comma) = of_names (faults_of_elements ds scope es) (faults_of_rest ds scope rest) (of_elements ds scope es) (of_rest ds scope rest)
   of_expression ds scope (tree.conjunction es) = of_elements ds scope es
   of_expression ds scope (tree.disjunction bs) = of_branches ds scope bs
@@ -79,17 +79,17 @@ mutual
   of_entries : (ds : List Definition) (scope : Scope) (es : Entries) → AreOfNames (faults_of_entries ds scope es)
   of_entries ds scope no_entries = tt
   of_entries ds scope (entry ellipsis es) = of_entries ds scope es
-  of_entries ds scope (entry (field l chain e) es) = of_names (faults ds (behind chain scope) e) (faults_of_entries ds scope es) (of_expression ds (behind chain scope) e) (of_entries ds scope es)
-  of_entries ds scope (entry (definition t place chain e) es) = of_names (faults ds (behind chain scope) e) (faults_of_entries ds scope es) (of_expression ds (behind chain scope) e) (of_entries ds scope es)
+  of_entries ds scope (entry (field l chain e) es) = of_names (faults ds (scope_behind chain scope) e) (faults_of_entries ds scope es) (of_expression ds (scope_behind chain scope) e) (of_entries ds scope es)
+  of_entries ds scope (entry (definition t place chain e) es) = of_names (faults ds (scope_behind chain scope) e) (faults_of_entries ds scope es) (of_expression ds (scope_behind chain scope) e) (of_entries ds scope es)
 
-first_of_names : (r : Refusal) (rs : List Refusal) → IsFirst r rs → AreOfNames rs → IsOfNames r.kind
+first_of_names : (r : Refusal) (rs : List Refusal) → IsFirstName r rs → AreOfNames rs → IsOfNames r.kind
 first_of_names r rs f h = let all = subst AreOfNames f.is h in all.0
 
 -- the first fault of a name refuses the text
-pub refuses_name : (es : Entries) (r : Refusal) → IsUnrepeated es → IsFirst r (name_faults es) → Refuses es r
+pub refuses_name : (es : Entries) (r : Refusal) → IsUnrepeated es → IsFirstName r (name_faults es) → TextRefuses es r
 unfolding IsOfNames
 refuses_name es r u f =
     ⊎_elim
-    (λ e. subst (λ k. RefusesAs es k r.place) (sym e) (u, subst (λ k. IsFirst (record { kind = k; place = r.place }) (name_faults es)) e f))
-    (λ e. subst (λ k. RefusesAs es k r.place) (sym e) (u, subst (λ k. IsFirst (record { kind = k; place = r.place }) (name_faults es)) e f))
-    (first_of_names r (name_faults es) f (of_entries (definitions es) (inside es (λ t. false)) es))
+    (λ e. subst (λ k. RefusesAs es k r.place) (sym e) (u, subst (λ k. IsFirstName (record { kind = k; place = r.place }) (name_faults es)) e f))
+    (λ e. subst (λ k. RefusesAs es k r.place) (sym e) (u, subst (λ k. IsFirstName (record { kind = k; place = r.place }) (name_faults es)) e f))
+    (first_of_names r (name_faults es) f (of_entries (definitions es) (scope_inside es (λ t. false)) es))

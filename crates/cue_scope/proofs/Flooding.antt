@@ -4,7 +4,7 @@ use Rattle.std.specs.List.{count_by, sum_by}
 use Rattle.std.proofs.lemmas.List.{length_push}
 use Rattle.std.proofs.lemmas.List.Sums.{sum_by-set}
 use Rattle.std.proofs.Math.ListN.{replicate}
-use Rattle.cue_scope.specs.Graph.{IsIn, targets, PointsTo, IsReached, start, go_on}
+use Rattle.cue_scope.specs.Graph.{IsNodeIn, targets, PointsTo, IsReached, start, go_on}
 use Rattle.cue_scope.specs.Inner.Ordering.{Spread}
 use Rattle.cue_scope.proofs.Nodes.{in_append, in_append_left, in_append_right}
 
@@ -12,11 +12,11 @@ use Rattle.cue_scope.proofs.Nodes.{in_append, in_append_left, in_append_right}
 pub record Spreading (before after : List Bool) (waiting now nodes rest : List ℕ) : Type 0 where
   pub lengths : length after ≡ length before
   pub kept : (i : ℕ) → get_or before i false ≡ true → get_or after i false ≡ true
-  pub all : (i : ℕ) → IsIn i nodes → (get_or after i false ≡ true) ⊎ IsIn i rest
-  pub only : (i : ℕ) → get_or after i false ≡ true → (get_or before i false ≡ true) ⊎ IsIn i nodes
-  pub new : (i : ℕ) → get_or after i false ≡ true → (get_or before i false ≡ true) ⊎ IsIn i now
-  pub stays : (i : ℕ) → IsIn i waiting → IsIn i now
-  pub from : (i : ℕ) → IsIn i now → IsIn i waiting ⊎ IsIn i nodes
+  pub all : (i : ℕ) → IsNodeIn i nodes → (get_or after i false ≡ true) ⊎ IsNodeIn i rest
+  pub only : (i : ℕ) → get_or after i false ≡ true → (get_or before i false ≡ true) ⊎ IsNodeIn i nodes
+  pub new : (i : ℕ) → get_or after i false ≡ true → (get_or before i false ≡ true) ⊎ IsNodeIn i now
+  pub stays : (i : ℕ) → IsNodeIn i waiting → IsNodeIn i now
+  pub from : (i : ℕ) → IsNodeIn i now → IsNodeIn i waiting ⊎ IsNodeIn i nodes
   pub left : count_by not after + length now ≡ count_by not before + length waiting
 
 -- before the first node
@@ -82,7 +82,7 @@ count_flags r x h off =
 
 -- at a node that wasn't reached before
 pub spreading_add : (before after : List Bool) (waiting now nodes : List ℕ) (x : ℕ) (rest : List ℕ)
-    → Spreading before after waiting now nodes (x ∷ rest) → IsIn x nodes → x < length after → get_or after x false ≡ false
+    → Spreading before after waiting now nodes (x ∷ rest) → IsNodeIn x nodes → x < length after → get_or after x false ≡ false
     → Spreading before (set after x true) waiting (now ++ x ∷ []) nodes rest
 spreading_add before after waiting now nodes x rest s in_nodes inside is_false =
     let flags = flag_at after x in
@@ -90,10 +90,10 @@ spreading_add before after waiting now nodes x rest s in_nodes inside is_false =
       lengths = length_flags after x ∙ s.lengths;
       kept = λ i h. ⊎_elim (λ a. a.1) (λ b. b.1 ∙ s.kept i h) (flags i inside);
       all = λ i is. ⊎_elim (λ a. inl a.1) (λ b. ⊎_elim (λ h. inl (b.1 ∙ h)) (λ r. ⊎_elim (λ e. absurd (b.0 e)) (λ more. inr more) r) (s.all i is)) (flags i inside);
-      only = λ i h. ⊎_elim (λ a. inr (subst (λ z. IsIn z nodes) (sym a.0) in_nodes)) (λ b. s.only i (sym b.1 ∙ h)) (flags i inside);
+      only = λ i h. ⊎_elim (λ a. inr (subst (λ z. IsNodeIn z nodes) (sym a.0) in_nodes)) (λ b. s.only i (sym b.1 ∙ h)) (flags i inside);
       new = λ i h. ⊎_elim (λ a. inr (in_append_right now (x ∷ []) i (inl a.0))) (λ b. ⊎_elim (λ old. inl old) (λ is. inr (in_append_left now (x ∷ []) i is)) (s.new i (sym b.1 ∙ h))) (flags i inside);
       stays = λ i is. in_append_left now (x ∷ []) i (s.stays i is);
-      from = λ i is. ⊎_elim (λ old. s.from i old) (λ last. ⊎_elim (λ e. inr (subst (λ z. IsIn z nodes) (sym e) in_nodes)) (λ no. absurd no) last) (in_append now (x ∷ []) i is);
+      from = λ i is. ⊎_elim (λ old. s.from i old) (λ last. ⊎_elim (λ e. inr (subst (λ z. IsNodeIn z nodes) (sym e) in_nodes)) (λ no. absurd no) last) (in_append now (x ∷ []) i is);
       left = let less = count_flags after x inside is_false in let longer : length (now ++ x ∷ []) ≡ length now + 1 = length_push now x in let before_that = s.left in omega arith;
     }
 
@@ -101,9 +101,9 @@ spreading_add before after waiting now nodes x rest s in_nodes inside is_false =
 pub record IsFlooding (g : List (List ℕ)) (from : List ℕ) (reached : List Bool) (waiting : List ℕ) : Type 0 where
   pub lengths : length reached ≡ length g
   pub sound : (i : ℕ) → get_or reached i false ≡ true → IsReached g from i
-  pub all : (i : ℕ) → IsIn i from → get_or reached i false ≡ true
-  pub waits : (i : ℕ) → IsIn i waiting → get_or reached i false ≡ true
-  pub closed : (i : ℕ) → get_or reached i false ≡ true → IsIn i waiting ⊎ ((j : ℕ) → PointsTo g i j → get_or reached j false ≡ true)
+  pub all : (i : ℕ) → IsNodeIn i from → get_or reached i false ≡ true
+  pub waits : (i : ℕ) → IsNodeIn i waiting → get_or reached i false ≡ true
+  pub closed : (i : ℕ) → get_or reached i false ≡ true → IsNodeIn i waiting ⊎ ((j : ℕ) → PointsTo g i j → get_or reached j false ≡ true)
 
 no_flag : (n i : ℕ) → get_or (replicate n false) i false ≡ true → ⊥
 no_flag zero i h = cc
@@ -148,14 +148,14 @@ flooding_step g from reached after waiting now x f s =
       waits = λ i is. ⊎_elim (λ old. s.kept i (f.waits i (in_append_left waiting (x ∷ []) i old))) (λ t. s.all i t) (s.from i is);
       closed = λ i h. ⊎_elim
           (λ old. ⊎_elim
-          (λ waited. ⊎_elim (λ still. inl (s.stays i still)) (λ last. ⊎_elim (λ e. inr (λ j points. s.all j (subst (λ z. IsIn j (targets g z)) e points))) (λ no. absurd no) last) (in_append waiting (x ∷ []) i waited))
+          (λ waited. ⊎_elim (λ still. inl (s.stays i still)) (λ last. ⊎_elim (λ e. inr (λ j points. s.all j (subst (λ z. IsNodeIn j (targets g z)) e points))) (λ no. absurd no) last) (in_append waiting (x ∷ []) i waited))
           (λ done. inr (λ j points. s.kept j (done j points)))
           (f.closed i old))
           (λ is. inl is)
           (s.new i h);
     }
 
-no_member : (xs : List ℕ) (i : ℕ) → length xs ≡ 0 → IsIn i xs → ⊥
+no_member : (xs : List ℕ) (i : ℕ) → length xs ≡ 0 → IsNodeIn i xs → ⊥
 no_member [] i e h = h
 no_member (x ∷ xs) i e h = omega arith
 
@@ -176,6 +176,6 @@ flag_inside (b ∷ r) (suc i) h = let less = flag_inside r i h in omega arith
 -- a node that waits is one of the graph
 pub waits_inside : (g : List (List ℕ)) (n : ℕ) (from : List ℕ) (reached : List Bool) (waiting now : List ℕ) (x : ℕ) → length g ≡ n → IsFlooding g from reached waiting → waiting ≡ now ++ x ∷ [] → x < n
 waits_inside g n from reached waiting now x e f is =
-    let inside : x < length reached = flag_inside reached x (f.waits x (subst (λ z. IsIn x z) (sym is) (in_append_right now (x ∷ []) x (inl refl)))) in
+    let inside : x < length reached = flag_inside reached x (f.waits x (subst (λ z. IsNodeIn x z) (sym is) (in_append_right now (x ∷ []) x (inl refl)))) in
     let same = f.lengths in
     omega arith

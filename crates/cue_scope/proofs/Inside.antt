@@ -7,17 +7,17 @@ use Rattle.cue_syntax.specs.declared.tree.Identifier.{Identifier}
 use Rattle.cue_syntax.specs.declared.tree.Identifier.TheVariants as identifiers
 use Rattle.cue_syntax.specs.Syntax as tree
 use Rattle.cue_syntax.specs.Syntax.{Expression, Elements, no_elements, element, branch, Branches, no_branches, next_branch, ellipsis, field, definition, Entries, no_entries, entry}
-use Rattle.cue_scope.specs.Definitions.{Definition, number_of}
-use Rattle.cue_scope.specs.Graph.{IsIn, targets, IsClosed}
+use Rattle.cue_scope.specs.Definitions.{Definition, number_of_name}
+use Rattle.cue_scope.specs.Graph.{IsNodeIn, targets, IsClosed}
 use Rattle.cue_scope.specs.Uses.{uses, uses_of_name, uses_of_elements, uses_of_rest, uses_of_branches, uses_of_entries, uses_of_fields, graph}
 use Rattle.cue_scope.proofs.Nodes.{in_append}
 use Rattle.cue_scope.proofs.Meanings.{length_graph}
 
 -- each is below the bound
 pub AreBelow : ℕ → List ℕ → Type 0
-AreBelow n is = (i : ℕ) → IsIn i is → i < n
+AreBelow n is = (i : ℕ) → IsNodeIn i is → i < n
 
-pub below_is : (n : ℕ) (is : List ℕ) → AreBelow n is → (i : ℕ) → IsIn i is → i < n
+pub below_is : (n : ℕ) (is : List ℕ) → AreBelow n is → (i : ℕ) → IsNodeIn i is → i < n
 unfolding AreBelow
 below_is n is h = h
 
@@ -45,7 +45,7 @@ below_option ds (Some j) h = λ i there. ⊎_elim (λ e. let less = h j refl in 
 below_name : (ds : List Definition) (n : Identifier) → AreBelow (length ds) (uses_of_name ds n)
 below_name ds (identifiers.Plain t) = below_none (length ds)
 below_name ds (identifiers.Hidden t) = below_none (length ds)
-below_name ds (identifiers.Definition t) = below_option ds (number_of t ds) (λ i e. let less = position_below (λ d. bytes_eq t d.name) 0 ds i e in omega arith)
+below_name ds (identifiers.Definition t) = below_option ds (number_of_name t ds) (λ i e. let less = position_below (λ d. bytes_eq t d.name) 0 ds i e in omega arith)
 
 mutual
   pub uses_below : (ds : List Definition) (e : Expression) → AreBelow (length ds) (uses ds e)

@@ -2,7 +2,7 @@
 use Rattle.std.proofs.Common.{◌≡◌, ℕ, suc, ◌<◌, ◌≤◌, inl, ⊎_elim, arith, List, [], ◌∷◌, ◌++◌, length, get_or, sym, ap, subst, ◌∙◌}
 use Rattle.std.proofs.lemmas.Bool.Decides.{eqb_tells}
 use Rattle.std.proofs.lemmas.List.{get_or_append_left}
-use Rattle.cue_scope.specs.Graph.{IsIn, IsReached, start, go_on, PointsTo, AreNodes, IsClosed, IsOrder}
+use Rattle.cue_scope.specs.Graph.{IsNodeIn, IsReached, start, go_on, PointsTo, AreNodes, IsClosed, IsOrder}
 use Rattle.cue_scope.specs.Definitions.{Definition}
 use Rattle.cue_scope.specs.Reached.{IsReachedOrder}
 use Rattle.cue_scope.specs.Uses.{graph, uses_of_fields}
@@ -14,9 +14,9 @@ use Rattle.cue_scope.proofs.Placing.{pushed-at}
 
 -- of the first nodes of an order those that are reached were kept
 pub record IsKeptSoFar (g : List (List ℕ)) (from order : List ℕ) (count : ℕ) (kept : List ℕ) : Type 0 where
-  pub all : (k : ℕ) → k < count → k < length order → IsReached g from (get_or order k 0) → IsIn (get_or order k 0) kept
-  pub only : (i : ℕ) → IsIn i kept → IsReached g from i
-  pub behind : (i : ℕ) → IsIn i kept → (k : ℕ) × (k < count) × (k < length order) × (get_or order k 0 ≡ i)
+  pub all : (k : ℕ) → k < count → k < length order → IsReached g from (get_or order k 0) → IsNodeIn (get_or order k 0) kept
+  pub only : (i : ℕ) → IsNodeIn i kept → IsReached g from i
+  pub behind : (i : ℕ) → IsNodeIn i kept → (k : ℕ) × (k < count) × (k < length order) × (get_or order k 0 ≡ i)
   pub after : (k j : ℕ) → k < length kept → PointsTo g (get_or kept k 0) j → (m : ℕ) × (m < k) × (get_or kept m 0 ≡ j)
   pub once : (k m : ℕ) → k < length kept → m < length kept → get_or kept k 0 ≡ get_or kept m 0 → k ≡ m
 
@@ -45,7 +45,7 @@ kept_same g from order count kept off w = record {
 
 -- a node that was kept isn't the next of the order
 not_kept : (g : List (List ℕ)) (from order : List ℕ) (count : ℕ) (kept : List ℕ) → IsOrder g order → count < length order → IsKeptSoFar g from order count kept
-    → ¬ IsIn (get_or order count 0) kept
+    → ¬ IsNodeIn (get_or order count 0) kept
 not_kept g from order count kept o h w there =
     let old = w.behind (get_or order count 0) there in
     let same : old.0 ≡ count = o.once old.0 count old.2 h old.3 in
@@ -75,16 +75,16 @@ kept_more g from order count kept o inside reached w =
           let before = o.after count j inside from_n in
           let is_j : get_or order before.0 0 ≡ j = before.2 in
           let less : before.0 < count = before.1 in
-          let found = in_index kept j (subst (λ z. IsIn z kept) is_j (w.all before.0 less (omega arith) (subst (λ z. IsReached g from z) (sym is_j) (go_on n j reached from_n)))) in
+          let found = in_index kept j (subst (λ z. IsNodeIn z kept) is_j (w.all before.0 less (omega arith) (subst (λ z. IsReached g from z) (sym is_j) (go_on n j reached from_n)))) in
           (found.0, (let a = found.1 in let b = r.0 in omega arith), get_or_append_left kept (n ∷ []) 0 found.0 found.1 ∙ found.2))
           (pushed-at kept n k h);
       once = λ k m hk hm e. ⊎_elim
           (λ a. ⊎_elim
           (λ b. w.once k m a.0 b.0 (sym a.1 ∙ e ∙ b.1))
-          (λ b. absurd (apart (subst (λ z. IsIn z kept) (sym a.1 ∙ e ∙ b.1) (in_at kept k a.0))))
+          (λ b. absurd (apart (subst (λ z. IsNodeIn z kept) (sym a.1 ∙ e ∙ b.1) (in_at kept k a.0))))
           (pushed-at kept n m hm))
           (λ a. ⊎_elim
-          (λ b. absurd (apart (subst (λ z. IsIn z kept) (sym b.1 ∙ sym e ∙ a.1) (in_at kept m b.0))))
+          (λ b. absurd (apart (subst (λ z. IsNodeIn z kept) (sym b.1 ∙ sym e ∙ a.1) (in_at kept m b.0))))
           (λ b. a.0 ∙ sym b.0)
           (pushed-at kept n m hm))
           (pushed-at kept n k hk);
@@ -103,14 +103,14 @@ kept_all g from order kept count o closed first at_end w = record {
     w.only i,
     λ r.
         let found = in_index order i (o.all i (reached_nodes g from closed first i r)) in
-        subst (λ z. IsIn z kept) found.2 (w.all found.0 (let a = found.1 in omega arith) found.1 (subst (λ z. IsReached g from z) (sym found.2) r)),
+        subst (λ z. IsNodeIn z kept) found.2 (w.all found.0 (let a = found.1 in omega arith) found.1 (subst (λ z. IsReached g from z) (sym found.2) r)),
   );
   after = w.after;
   once = w.once;
 }
 
 -- definitions that a text reaches are definitions of it
-pub reached_below : (ds : List Definition) (es : Entries) (order : List ℕ) → IsReachedOrder (graph ds) (uses_of_fields ds es) order → (i : ℕ) → IsIn i order → i < length ds
+pub reached_below : (ds : List Definition) (es : Entries) (order : List ℕ) → IsReachedOrder (graph ds) (uses_of_fields ds es) order → (i : ℕ) → IsNodeIn i order → i < length ds
 reached_below ds es order o i there =
     let same : length (graph ds) ≡ length ds = length_graph ds ds in
     let first : AreNodes (graph ds) (uses_of_fields ds es) = λ j h. let below : j < length ds = below_is (length ds) (uses_of_fields ds es) (fields_below ds es) j h in omega arith in

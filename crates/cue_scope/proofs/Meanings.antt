@@ -11,15 +11,15 @@ use Rattle.cue_syntax.specs.declared.tree.Identifier.TheVariants as identifiers
 use Rattle.cue_syntax.specs.Syntax as tree
 use Rattle.cue_syntax.specs.Syntax.{Expression, Elements, no_elements, element, branch, Branches, no_branches, next_branch, ellipsis, field, definition, Entries, no_entries, entry}
 use Rattle.cue_scope.specs.Core.{Core, bottom, closed, conjunction, disjunction, struct, close, list, each, core, followed_by, choice, member, dots}
-use Rattle.cue_scope.specs.Definitions.{Definition, number_of}
-use Rattle.cue_scope.specs.Graph.{IsIn, targets, PointsTo, IsOrder}
-use Rattle.cue_scope.specs.Meaning.{meant, meant_elements, meant_branches, meant_members, meant_name, meant_use, meaning_within, meaning, nested, meant_rest, text_of}
+use Rattle.cue_scope.specs.Definitions.{Definition, number_of_name}
+use Rattle.cue_scope.specs.Graph.{IsNodeIn, targets, PointsTo, IsOrder}
+use Rattle.cue_scope.specs.Meaning.{meant, meant_elements, meant_branches, meant_members, meant_name, meant_use, meaning_within, meaning_of_number, nest_in_labels, meant_rest, text_of}
 use Rattle.cue_scope.specs.Uses.{uses, uses_of_name, uses_of_elements, uses_of_rest, uses_of_branches, uses_of_entries, graph}
 use Rattle.cue_scope.proofs.Nodes.{in_append_left, in_append_right, in_index}
 
 -- two ways to look definitions up that agree on these
 pub IsAlike : (ℕ → Core) → (ℕ → Core) → List ℕ → Type 0
-IsAlike f g is = (i : ℕ) → IsIn i is → f i ≡ g i
+IsAlike f g is = (i : ℕ) → IsNodeIn i is → f i ≡ g i
 
 alike_left : (f g : ℕ → Core) (us vs : List ℕ) → IsAlike f g (us ++ vs) → IsAlike f g us
 unfolding IsAlike
@@ -37,7 +37,7 @@ alike_option f g (Some i) h = h i (inl refl)
 alike_name : (ds : List Definition) (f g : ℕ → Core) (n : Identifier) → IsAlike f g (uses_of_name ds n) → meant_name ds f n ≡ meant_name ds g n
 alike_name ds f g (identifiers.Plain t) h = refl
 alike_name ds f g (identifiers.Hidden t) h = refl
-alike_name ds f g (identifiers.Definition t) h = alike_option f g (number_of t ds) h
+alike_name ds f g (identifiers.Definition t) h = alike_option f g (number_of_name t ds) h
 
 mutual
   pub alike : (ds : List Definition) (f g : ℕ → Core) (e : Expression) → IsAlike f g (uses ds e) → meant ds f e ≡ meant ds g e
@@ -78,8 +78,8 @@ mutual
   alike_members ds f g no_entries h = refl
   alike_members ds f g (entry ellipsis es) h = ap dots (alike_members ds f g es h)
   alike_members ds f g (entry (field l chain e) es) h =
-      ap (λ z. member (text_of l.name) l.mark (nested chain z) (meant_members ds f es)) (alike ds f g e (alike_left f g (uses ds e) (uses_of_entries ds es) h))
-      ∙ ap (λ z. member (text_of l.name) l.mark (nested chain (meant ds g e)) z) (alike_members ds f g es (alike_right f g (uses ds e) (uses_of_entries ds es) h))
+      ap (λ z. member (text_of l.name) l.mark (nest_in_labels chain z) (meant_members ds f es)) (alike ds f g e (alike_left f g (uses ds e) (uses_of_entries ds es) h))
+      ∙ ap (λ z. member (text_of l.name) l.mark (nest_in_labels chain (meant ds g e)) z) (alike_members ds f g es (alike_right f g (uses ds e) (uses_of_entries ds es) h))
   alike_members ds f g (entry (definition t place chain e) es) h = alike_members ds f g es (alike_right f g (uses ds e) (uses_of_entries ds es) h)
 
 -- what the i-th definition uses are the nodes that the node i points to
@@ -90,7 +90,7 @@ uses_at ds (x ∷ xs) (suc i) d is = uses_at ds xs i d is
 
 alike_use : (ds : List Definition) (f g : ℕ → Core) (o : Option Definition) → ((d : Definition) → o ≡ Some d → IsAlike f g (uses ds d.value)) → meant_use ds f o ≡ meant_use ds g o
 alike_use ds f g None h = refl
-alike_use ds f g (Some d) h = ap (λ z. closed (nested d.chain z)) (alike ds f g d.value (h d refl))
+alike_use ds f g (Some d) h = ap (λ z. closed (nest_in_labels d.chain z)) (alike ds f g d.value (h d refl))
 
 -- a definition at the place k of an order means the same, however many steps more than k are taken
 alike_steps : (ds : List Definition) (order : List ℕ) → IsOrder (graph ds) order → (n k s t : ℕ) → k < n → k < length order → k < s → k < t
@@ -102,7 +102,7 @@ alike_steps ds order o (suc n) k (suc s) zero h l a b = absurd (omega arith)
 alike_steps ds order o (suc n) k (suc s) (suc t) h l a b =
     alike_use ds (meaning_within s ds) (meaning_within t ds) (slice_get ds (get_or order k 0))
     (λ d is j there.
-    let points : PointsTo (graph ds) (get_or order k 0) j = subst (λ z. IsIn j z) (sym (uses_at ds ds (get_or order k 0) d is)) there in
+    let points : PointsTo (graph ds) (get_or order k 0) j = subst (λ z. IsNodeIn j z) (sym (uses_at ds ds (get_or order k 0) d is)) there in
     let before = o.after k j l points in
     let m = before.0 in
     let less : m < k = before.1 in
@@ -119,7 +119,7 @@ unfolding IsDistinct
 distinct [] once = tt
 distinct (x ∷ xs) once = (all_apart x xs (λ m l e. let same = once (suc m) 0 (omega arith) (omega arith) e in omega (arith, same)), distinct xs (λ k m a b e. let same = once (suc k) (suc m) (omega arith) (omega arith) e in omega (arith, same)))
 
-found_below : (xs : List ℕ) (n : ℕ) → ((i : ℕ) → IsIn i xs → i < n) → (q : ℕ) → list_any (eqb q) xs ≡ true → q < n
+found_below : (xs : List ℕ) (n : ℕ) → ((i : ℕ) → IsNodeIn i xs → i < n) → (q : ℕ) → list_any (eqb q) xs ≡ true → q < n
 found_below [] n h q e = absurd (cc)
 found_below (x ∷ xs) n h q e =
     ⊎_elim (λ t. let less = h x (inl refl) in let same = t.1 in omega (arith, same, less))
@@ -136,7 +136,7 @@ order_short ds order o =
     omega (arith, within, same)
 
 -- a use of a definition means its body, closed
-pub meaning_is : (ds : List Definition) (order : List ℕ) → IsOrder (graph ds) order → (i : ℕ) → i < length ds → meaning ds i ≡ meant_use ds (meaning ds) (slice_get ds i)
+pub meaning_is : (ds : List Definition) (order : List ℕ) → IsOrder (graph ds) order → (i : ℕ) → i < length ds → meaning_of_number ds i ≡ meant_use ds (meaning_of_number ds) (slice_get ds i)
 unfolding meaning_within
 meaning_is ds order o i h =
     let same = length_graph ds ds in

@@ -8,8 +8,8 @@ use Rattle.std.specs.Str.{bytes_eq}
 use Rattle.std.specs.Bool.{Decides}
 use Rattle.std.proofs.lemmas.Slice.Eq.{bytes_eq-Decides}
 use Rattle.cue_scope.specs.declared.definitions.Definition as code
-use Rattle.cue_scope.specs.Definitions.{Definition, number_of}
-use Rattle.cue_scope.specs.Listed.{listed, definition_of}
+use Rattle.cue_scope.specs.Definitions.{Definition, number_of_name}
+use Rattle.cue_scope.specs.Listed.{definition_list, definition_of}
 
 -- the number, or else that of the new one
 abbrev pub or_last : Option ℕ → Bool → ℕ → Option ℕ
@@ -28,8 +28,8 @@ position_push p i (x ∷ ds) d =
     ap (λ z. cond (p x) (Some i) z) (more ∙ ap (λ z. or_last (position_from p (i + 1) ds) (p d) z) e) ∙ last_of_cond (p x) i (position_from p (i + 1) ds) (p d) (i + length (x ∷ ds))
 
 -- the number of a name, after one more definition
-pub number_push : (name : List ℕ) (ds : List Definition) (d : Definition) → number_of name (ds ++ d ∷ []) ≡ or_last (number_of name ds) (bytes_eq name d.name) (length ds)
-number_push name ds d = let e : 0 + length ds ≡ length ds = omega arith in position_push (λ x. bytes_eq name x.name) 0 ds d ∙ ap (λ z. or_last (number_of name ds) (bytes_eq name d.name) z) e
+pub number_push : (name : List ℕ) (ds : List Definition) (d : Definition) → number_of_name name (ds ++ d ∷ []) ≡ or_last (number_of_name name ds) (bytes_eq name d.name) (length ds)
+number_push name ds d = let e : 0 + length ds ≡ length ds = omega arith in position_push (λ x. bytes_eq name x.name) 0 ds d ∙ ap (λ z. or_last (number_of_name name ds) (bytes_eq name d.name) z) e
 
 or_none : (o : Option ℕ) (n : ℕ) → or_last o false n ≡ o
 or_none None n = refl
@@ -50,25 +50,25 @@ apart_back : (xs ys : List ℕ) → (xs ≡ ys → ⊥) → bytes_eq ys xs ≡ f
 apart_back xs ys h = ⊎_elim (λ t. absurd (h (sym t.1))) (λ f. f.0) (told ys xs)
 
 -- a new name gets its number, and the others keep theirs
-pub number_new : (name : List ℕ) (ds : List Definition) (d : Definition) (found : Option ℕ) → number_of d.name ds ≡ None
-    → found ≡ cond (bytes_eq d.name name) (Some (length ds)) (number_of name ds) → found ≡ number_of name (ds ++ d ∷ [])
+pub number_new : (name : List ℕ) (ds : List Definition) (d : Definition) (found : Option ℕ) → number_of_name d.name ds ≡ None
+    → found ≡ cond (bytes_eq d.name name) (Some (length ds)) (number_of_name name ds) → found ≡ number_of_name name (ds ++ d ∷ [])
 number_new name ds d found unknown is =
     ⊎_elim
     (λ t. let same : d.name ≡ name = t.1 in
-    let here : number_of name ds ≡ None = subst (λ z. number_of z ds ≡ None) same unknown in
+    let here : number_of_name name ds ≡ None = subst (λ z. number_of_name z ds ≡ None) same unknown in
     let back : bytes_eq name d.name ≡ true = subst (λ z. bytes_eq z d.name ≡ true) same (bytes_eq_self d.name) in
     let now : found ≡ Some (length ds) = rw t.0 at is in
     now ∙ sym (number_push name ds d ∙ rw (here, back) refl))
     (λ f. let apart : bytes_eq name d.name ≡ false = apart_back d.name name f.1 in
-    let now : found ≡ number_of name ds = rw f.0 at is in
-    now ∙ sym (number_push name ds d ∙ rw apart (or_none (number_of name ds) (length ds))))
+    let now : found ≡ number_of_name name ds = rw f.0 at is in
+    now ∙ sym (number_push name ds d ∙ rw apart (or_none (number_of_name name ds) (length ds))))
     (told d.name name)
 
-pub listed_push : (ds : List code.Definition) (d : code.Definition) → listed (ds ++ d ∷ []) ≡ listed ds ++ definition_of d ∷ []
+pub listed_push : (ds : List code.Definition) (d : code.Definition) → definition_list (ds ++ d ∷ []) ≡ definition_list ds ++ definition_of d ∷ []
 listed_push [] d = refl
 listed_push (x ∷ ds) d = ap (λ z. definition_of x ∷ z) (listed_push ds d)
 
-pub length_listed : (ds : List code.Definition) → length (listed ds) ≡ length ds
+pub length_listed : (ds : List code.Definition) → length (definition_list ds) ≡ length ds
 length_listed [] = refl
 length_listed (x ∷ ds) = ap suc (length_listed ds)
 
@@ -77,5 +77,5 @@ none_of None h = refl
 none_of (Some x) h = absurd (cc)
 
 -- the definition at an index
-pub listed_at : (xs : List code.Definition) (i : ℕ) (x : code.Definition) → i < length xs → x ≡ get_or xs i x → slice_get (listed xs) i ≡ Some (definition_of x)
+pub listed_at : (xs : List code.Definition) (i : ℕ) (x : code.Definition) → i < length xs → x ≡ get_or xs i x → slice_get (definition_list xs) i ≡ Some (definition_of x)
 listed_at xs i x h is = slice_get-map definition_of xs i ∙ ap (option_map definition_of) (slice_get_read xs (length xs) i x refl h is)

@@ -8,7 +8,7 @@ use Rattle.std.specs.List.{count_by, sum_by}
 use Rattle.std.proofs.lemmas.List.Sums.{sum_by-set}
 use Rattle.std.proofs.lemmas.Bool.Decides.{eqb_tells}
 use Rattle.std.proofs.Math.ListN.{replicate}
-use Rattle.cue_scope.specs.Graph.{IsIn, targets, PointsTo, IsReached, start, go_on, Reaches, IsAcyclic, IsOrder}
+use Rattle.cue_scope.specs.Graph.{IsNodeIn, targets, PointsTo, IsReached, start, go_on, Reaches, IsAcyclic, IsOrder}
 use Rattle.cue_scope.specs.Inner.Ordering.{first_open, is_ready, IsPlaced}
 use Rattle.cue_scope.proofs.Nodes.{in_at, in_index, reaches_inside, first_open_None}
 
@@ -136,7 +136,7 @@ placed_none g n e = record {
 
 -- what is reached from nodes of smaller rank has a smaller rank
 reached-ranked : (g : List (List ℕ)) (order ranks from : List ℕ) (top : ℕ) → IsPlaced g order ranks
-    → ((j : ℕ) → IsIn j from → (0 < get_or ranks j 0) × (get_or ranks j 0 < top))
+    → ((j : ℕ) → IsNodeIn j from → (0 < get_or ranks j 0) × (get_or ranks j 0 < top))
     → (j : ℕ) → IsReached g from j → (0 < get_or ranks j 0) × (get_or ranks j 0 < top)
 reached-ranked g order ranks from top p first j (start _ h) = first j h
 reached-ranked g order ranks from top p first j (go_on i _ r h) =
@@ -167,7 +167,7 @@ placed_order g order ranks p all = record {
       let ranked : 0 < get_or ranks i 0 = all i (subst (λ z. i < z) (sym p.lengths) h) in
       let old = p.listed i ranked in
       let high : get_or ranks i 0 ≤ length order = old.0 in
-      subst (λ z. IsIn z order) old.1 (in_at order (get_or ranks i 0 - 1) (omega arith));
+      subst (λ z. IsNodeIn z order) old.1 (in_at order (get_or ranks i 0 - 1) (omega arith));
   after = λ k j h points.
       let rank_k : get_or ranks (get_or order k 0) 0 ≡ k + 1 = p.ranked k h in
       let step = p.after (get_or order k 0) j points (omega arith) in

@@ -7,7 +7,7 @@ use Rattle.cue_syntax.specs.declared.tree.Declaration.TheFolds.{fold-roll-Declar
 use Rattle.cue_syntax.specs.declared.tree.Expr.{Expr}
 use Rattle.cue_syntax.specs.declared.tree.Label.{Label}
 use Rattle.cue_syntax.specs.Syntax.{Expression, Entry, Rest, Branch, ellipsis, field, definition, Entries, entry, entry_tree, entries, expression, entry_step, expression_step, rest_step, branch_step}
-use Rattle.cue_scope.specs.Definitions.{Definition, definitions, number_of, repeats_after}
+use Rattle.cue_scope.specs.Definitions.{Definition, definitions, number_of_name, repeats_after}
 
 -- The declarations from one on are that one and those after it.
 pub next_declaration : (ds : List Declaration) (i : ℕ) (d : Declaration) → i < length ds → d ≡ get_or ds i d → entries (drop i ds) ≡ entry (entry_tree d) (entries (drop (i + 1) ds))
@@ -20,7 +20,7 @@ pub all_with_next : (old new left rest all : List Definition) (d : Definition) �
 all_with_next old new left rest all d added is before = rw (added, append_assoc) (ap (λ z. old ++ z) (sym is) ∙ before)
 
 -- A name that is new repeats none.
-pub repeats_with_next : (old new left rest : List Definition) (d : Definition) (repeats : List ℕ) → new ≡ old ++ d ∷ [] → left ≡ d ∷ rest → number_of d.name old ≡ None
+pub repeats_with_next : (old new left rest : List Definition) (d : Definition) (repeats : List ℕ) → new ≡ old ++ d ∷ [] → left ≡ d ∷ rest → number_of_name d.name old ≡ None
     → repeats_after old left ≡ repeats → repeats_after new rest ≡ repeats
 repeats_with_next old new left rest d repeats added is unknown before =
     let h : repeats_after old (d ∷ rest) ≡ repeats = ap (repeats_after old) (sym is) ∙ before in

@@ -8,10 +8,10 @@ use Rattle.cue_syntax.specs.declared.tree.Declaration.TheVariants as declaration
 use Rattle.cue_syntax.specs.Syntax.{Entry, expression, entries, entry_tree, entry, ellipsis, field, definition}
 use Rattle.cue_syntax.proofs.Views.{view-Ellipsis, view-Field, view-Definition}
 use Rattle.cue_scope.specs.Definitions.{Definition, definitions}
-use Rattle.cue_scope.specs.Names.{Scope, behind, faults, faults_of_entries}
+use Rattle.cue_scope.specs.Names.{Scope, scope_behind, faults, faults_of_entries}
 use Rattle.cue_scope.specs.Uses.{uses, uses_of_fields}
 use Rattle.cue_scope.specs.Ordering.{graph_of}
-use Rattle.cue_scope.specs.Scopes.{IsWalked, IsStopped}
+use Rattle.cue_scope.specs.Scopes.{IsWalked, IsScopeStopped}
 use Rattle.cue_scope.proofs.Walking.{at_hand, stopped_before}
 
 -- what the definitions of these declarations use
@@ -52,7 +52,7 @@ text_ellipsis ds scope es graph fields i d w h is same =
 
 pub text_field : (ds : List Definition) (scope : Scope) (es : List Declaration) (graph : List (Vec ℕ Global)) (fields after : List ℕ) (i : ℕ) (d : Declaration) (l : Label) (chain : Vec Label Global) (e : Expr)
     → WalkingText ds scope es graph fields (drop i es) → i < length es → d ≡ get_or es i d → d ≡ declarations.Field l chain e
-    → IsWalked (faults ds (behind chain.items scope) (expression e)) (uses ds (expression e)) fields after → WalkingText ds scope es graph after (drop (i + 1) es)
+    → IsWalked (faults ds (scope_behind chain.items scope) (expression e)) (uses ds (expression e)) fields after → WalkingText ds scope es graph after (drop (i + 1) es)
 text_field ds scope es graph fields after i d l chain e w h is same walked =
     let v = hand ds scope es graph fields i d (field l chain.items (expression e)) w h is (ap entry_tree same ∙ view-Field l chain e) in
     record {
@@ -63,7 +63,7 @@ text_field ds scope es graph fields after i d l chain e w h is same walked =
 
 pub text_definition : (ds : List Definition) (scope : Scope) (es : List Declaration) (graph now : List (Vec ℕ Global)) (fields : List ℕ) (after : Vec ℕ Global) (i : ℕ) (d : Declaration) (t : List ℕ) (from : ℕ) (chain : Vec Label Global) (e : Expr)
     → WalkingText ds scope es graph fields (drop i es) → i < length es → d ≡ get_or es i d → d ≡ declarations.Definition t from chain e
-    → IsWalked (faults ds (behind chain.items scope) (expression e)) (uses ds (expression e)) [] after.items → now ≡ graph ++ after ∷ [] → WalkingText ds scope es now fields (drop (i + 1) es)
+    → IsWalked (faults ds (scope_behind chain.items scope) (expression e)) (uses ds (expression e)) [] after.items → now ≡ graph ++ after ∷ [] → WalkingText ds scope es now fields (drop (i + 1) es)
 text_definition ds scope es graph now fields after i d t from chain e w h is same walked pushed =
     let v = hand ds scope es graph fields i d (definition t from chain.items (expression e)) w h is (ap entry_tree same ∙ view-Definition t from chain e) in
     let rest = edges ds (drop (i + 1) es) in
@@ -76,14 +76,14 @@ text_definition ds scope es graph now fields after i d t from chain e w h is sam
 
 pub text_stops_field : (r : Refusal) (ds : List Definition) (scope : Scope) (es : List Declaration) (graph : List (Vec ℕ Global)) (fields : List ℕ) (i : ℕ) (d : Declaration) (l : Label) (chain : Vec Label Global) (e : Expr)
     → WalkingText ds scope es graph fields (drop i es) → i < length es → d ≡ get_or es i d → d ≡ declarations.Field l chain e
-    → IsStopped (faults ds (behind chain.items scope) (expression e)) r → IsStopped (faults_of_entries ds scope (entries es)) r
+    → IsScopeStopped (faults ds (scope_behind chain.items scope) (expression e)) r → IsScopeStopped (faults_of_entries ds scope (entries es)) r
 text_stops_field r ds scope es graph fields i d l chain e w h is same stopped =
     let v = hand ds scope es graph fields i d (field l chain.items (expression e)) w h is (ap entry_tree same ∙ view-Field l chain e) in
-    subst (λ z. IsStopped z r) (sym v.0) (stopped_before r (faults ds (behind chain.items scope) (expression e)) (faults_of_entries ds scope (entries (drop (i + 1) es))) stopped)
+    subst (λ z. IsScopeStopped z r) (sym v.0) (stopped_before r (faults ds (scope_behind chain.items scope) (expression e)) (faults_of_entries ds scope (entries (drop (i + 1) es))) stopped)
 
 pub text_stops_definition : (r : Refusal) (ds : List Definition) (scope : Scope) (es : List Declaration) (graph : List (Vec ℕ Global)) (fields : List ℕ) (i : ℕ) (d : Declaration) (t : List ℕ) (from : ℕ) (chain : Vec Label Global) (e : Expr)
     → WalkingText ds scope es graph fields (drop i es) → i < length es → d ≡ get_or es i d → d ≡ declarations.Definition t from chain e
-    → IsStopped (faults ds (behind chain.items scope) (expression e)) r → IsStopped (faults_of_entries ds scope (entries es)) r
+    → IsScopeStopped (faults ds (scope_behind chain.items scope) (expression e)) r → IsScopeStopped (faults_of_entries ds scope (entries es)) r
 text_stops_definition r ds scope es graph fields i d t from chain e w h is same stopped =
     let v = hand ds scope es graph fields i d (definition t from chain.items (expression e)) w h is (ap entry_tree same ∙ view-Definition t from chain e) in
-    subst (λ z. IsStopped z r) (sym v.0) (stopped_before r (faults ds (behind chain.items scope) (expression e)) (faults_of_entries ds scope (entries (drop (i + 1) es))) stopped)
+    subst (λ z. IsScopeStopped z r) (sym v.0) (stopped_before r (faults ds (scope_behind chain.items scope) (expression e)) (faults_of_entries ds scope (entries (drop (i + 1) es))) stopped)

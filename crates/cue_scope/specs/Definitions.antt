@@ -6,7 +6,7 @@ use Rattle.std.specs.Str.{bytes_eq}
 use Rattle.cue_lattice.specs.declared.refusal.Kind.TheVariants as kinds
 use Rattle.cue_lattice.specs.declared.refusal.Refusal.{Refusal}
 use Rattle.cue_syntax.specs.declared.tree.Label.{Label}
-use Rattle.cue_scope.specs.First.{IsFirst}
+use Rattle.cue_scope.specs.First.{IsFirstName}
 use Rattle.cue_syntax.specs.Syntax.{Expression, Entries, no_entries, entry, definition}
 
 -- `#Name: label: value`: its name, where that stands, and the chain of labels before its value
@@ -24,20 +24,20 @@ definitions (entry (definition name place chain e) es) =
 definitions (entry _ es) = definitions es
 
 -- the number of the first definition of this name
-abbrev pub number_of : List ℕ → List Definition → Option ℕ
-number_of name ds = position_from (λ d. bytes_eq name d.name) 0 ds
+abbrev pub number_of_name : List ℕ → List Definition → Option ℕ
+number_of_name name ds = position_from (λ d. bytes_eq name d.name) 0 ds
 
 -- the places of the definitions whose name an earlier one has, where these stood before
 abbrev pub repeats_after : List Definition → List Definition → List ℕ
 repeats_after before [] = []
 repeats_after before (d ∷ ds) =
-    cond (is_some (number_of d.name before)) (d.place ∷ []) []
+    cond (is_some (number_of_name d.name before)) (d.place ∷ []) []
     ++ repeats_after (before ++ d ∷ []) ds
 
-abbrev pub repeats : List Definition → List ℕ
-repeats ds = repeats_after [] ds
+abbrev pub repeated_names : List Definition → List ℕ
+repeated_names ds = repeats_after [] ds
 
 -- the refusal names the first definition whose name an earlier one has
 pub record IsRepeat (ds : List Definition) (refusal : Refusal) : Type 0 where
   pub kind : refusal.kind ≡ kinds.Repeated
-  pub first : IsFirst refusal.place (repeats ds)
+  pub first : IsFirstName refusal.place (repeated_names ds)

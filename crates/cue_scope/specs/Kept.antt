@@ -2,7 +2,7 @@
 use Rattle.std.specs.Prelude.{List}
 use Rattle.cue_scope.specs.declared.definitions.Definitions.{Definitions}
 use Rattle.cue_scope.specs.Definitions.{Definition}
-use Rattle.cue_scope.specs.Listed.{listed}
+use Rattle.cue_scope.specs.Listed.{definition_list}
 
-abbrev pub all_of : Definitions → List Definition
-all_of d = listed d.list.items
+abbrev pub nodes_kept : Definitions → List Definition
+nodes_kept d = definition_list d.list.items

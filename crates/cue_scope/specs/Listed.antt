@@ -12,5 +12,5 @@ definition_of d = record {
   value = expression d.value.now;
 }
 
-abbrev pub listed : List code.Definition → List Definition
-listed ds = map definition_of ds
+abbrev pub definition_list : List code.Definition → List Definition
+definition_list ds = map definition_of ds

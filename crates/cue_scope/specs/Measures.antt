@@ -6,15 +6,15 @@ use Rattle.cue_lattice.specs.declared.refusal.Kind.TheVariants as kinds
 use Rattle.cue_lattice.specs.Limits.{size_limit, step_limit}
 use Rattle.cue_syntax.specs.Syntax.{Expression, Elements, Rest, Branches, Entries}
 use Rattle.cue_scope.specs.declared.measure.Measure.{Measure}
-use Rattle.cue_scope.specs.declared.measure.Known.{Known}
+use Rattle.cue_scope.specs.declared.measure.KnownMeasures.{KnownMeasures}
 use Rattle.cue_scope.specs.Core.{Core, ends, followed_by, is_scalar, are_scalar}
 use Rattle.cue_scope.specs.Core.{are_scalar_choices}
 use Rattle.cue_scope.specs.Definitions.{Definition}
-use Rattle.cue_scope.specs.First.{IsFirst}
-use Rattle.cue_scope.specs.Graph.{IsIn}
-use Rattle.cue_scope.specs.Kept.{all_of}
+use Rattle.cue_scope.specs.First.{IsFirstName}
+use Rattle.cue_scope.specs.Graph.{IsNodeIn}
+use Rattle.cue_scope.specs.Kept.{nodes_kept}
 use Rattle.cue_scope.specs.Limits as limits
-use Rattle.cue_scope.specs.Meaning.{meaning, meant, meant_elements, meant_rest, meant_branches}
+use Rattle.cue_scope.specs.Meaning.{meaning_of_number, meant, meant_elements, meant_rest, meant_branches}
 use Rattle.cue_scope.specs.Meaning.{meant_members, meant_fields}
 use Rattle.cue_scope.specs.Terms.{terms, terms_of_elements, terms_of_rest, terms_of_branches}
 use Rattle.cue_scope.specs.Terms.{terms_of_entries}
@@ -27,16 +27,16 @@ pub record Total : Type 0 where
   pub depth : ℕ
   pub places : List ℕ
 
-abbrev pub first_of : List ℕ → Option ℕ
-first_of [] = None
-first_of (x ∷ xs) = Some x
+abbrev pub first_term : List ℕ → Option ℕ
+first_term [] = None
+first_term (x ∷ xs) = Some x
 
 -- sizes and depths are counted no further than just past their limits
 pub record IsMeasured (m : Measure) (t : Total) : Type 0 where
   pub scalar : m.scalar ≡ t.scalar
   pub size : m.size ≡ min t.size (size_limit + 1)
   pub depth : m.depth ≡ min t.depth (step_limit + 1)
-  pub place : m.term ≡ first_of t.places
+  pub place : m.term ≡ first_term t.places
 
 abbrev pub none : Total
 none = record { scalar = true; size = 0; depth = 0; places = [] }
@@ -44,16 +44,16 @@ none = record { scalar = true; size = 0; depth = 0; places = [] }
 abbrev pub leaf : Bool → Total
 leaf scalar = record { scalar = scalar; size = 1; depth = 0; places = [] }
 
-abbrev pub join : Total → Total → Total
-join a b = record {
+abbrev pub join_totals : Total → Total → Total
+join_totals a b = record {
   scalar = a.scalar && b.scalar;
   size = a.size + b.size;
   depth = max a.depth b.depth;
   places = a.places ++ b.places;
 }
 
-abbrev pub larger : ℕ → Total → Total
-larger more t = record {
+abbrev pub add_to_size : ℕ → Total → Total
+add_to_size more t = record {
   scalar = t.scalar;
   size = more + t.size;
   depth = t.depth;
@@ -106,71 +106,71 @@ total_of c places = record {
   places = places;
 }
 
-abbrev pub total : List Definition → Expression → Total
-total ds e = total_of (meant ds (meaning ds) e) (terms ds (meaning ds) e)
+abbrev pub total_measure : List Definition → Expression → Total
+total_measure ds e = total_of (meant ds (meaning_of_number ds) e) (terms ds (meaning_of_number ds) e)
 
 abbrev pub total_of_parts : List Definition → Elements → Total
 total_of_parts ds es = record {
-  scalar = are_scalar (meant_elements ds (meaning ds) es);
-  size = limits.size_of_cores (meant_elements ds (meaning ds) es);
-  depth = limits.depth_of_cores (meant_elements ds (meaning ds) es);
-  places = terms_of_elements ds (meaning ds) es;
+  scalar = are_scalar (meant_elements ds (meaning_of_number ds) es);
+  size = limits.size_of_cores (meant_elements ds (meaning_of_number ds) es);
+  depth = limits.depth_of_cores (meant_elements ds (meaning_of_number ds) es);
+  places = terms_of_elements ds (meaning_of_number ds) es;
 }
 
 abbrev pub total_of_elements : List Definition → Elements → Total
 total_of_elements ds es = record {
   scalar = true;
-  size = limits.size_of_cores (meant_elements ds (meaning ds) es);
-  depth = limits.depth_of_elements (followed_by (meant_elements ds (meaning ds) es) ends);
-  places = terms_of_elements ds (meaning ds) es;
+  size = limits.size_of_cores (meant_elements ds (meaning_of_number ds) es);
+  depth = limits.depth_of_elements (followed_by (meant_elements ds (meaning_of_number ds) es) ends);
+  places = terms_of_elements ds (meaning_of_number ds) es;
 }
 
 abbrev pub total_of_rest : List Definition → Rest → Total
 total_of_rest ds rest = record {
   scalar = true;
-  size = limits.size_of_elements (meant_rest ds (meaning ds) rest);
-  depth = limits.depth_of_elements (meant_rest ds (meaning ds) rest);
-  places = terms_of_rest ds (meaning ds) rest;
+  size = limits.size_of_elements (meant_rest ds (meaning_of_number ds) rest);
+  depth = limits.depth_of_elements (meant_rest ds (meaning_of_number ds) rest);
+  places = terms_of_rest ds (meaning_of_number ds) rest;
 }
 
 abbrev pub total_of_terms : List Definition → Branches → Total
 total_of_terms ds bs = record {
-  scalar = are_scalar_choices (meant_branches ds (meaning ds) bs);
-  size = limits.size_of_choices (meant_branches ds (meaning ds) bs);
-  depth = limits.depth_of_choices (meant_branches ds (meaning ds) bs);
-  places = terms_of_branches ds (meaning ds) bs;
+  scalar = are_scalar_choices (meant_branches ds (meaning_of_number ds) bs);
+  size = limits.size_of_choices (meant_branches ds (meaning_of_number ds) bs);
+  depth = limits.depth_of_choices (meant_branches ds (meaning_of_number ds) bs);
+  places = terms_of_branches ds (meaning_of_number ds) bs;
 }
 
 abbrev pub total_of_entries : List Definition → Entries → Total
 total_of_entries ds es = record {
   scalar = true;
-  size = limits.size_of_members (meant_members ds (meaning ds) es);
-  depth = limits.depth_of_members (meant_members ds (meaning ds) es);
-  places = terms_of_entries ds (meaning ds) es;
+  size = limits.size_of_members (meant_members ds (meaning_of_number ds) es);
+  depth = limits.depth_of_members (meant_members ds (meaning_of_number ds) es);
+  places = terms_of_entries ds (meaning_of_number ds) es;
 }
 
 -- the regular declarations of a text; all of its terms count, those in definitions too
 abbrev pub total_of_file : List Definition → Entries → Total
 total_of_file ds es = record {
   scalar = true;
-  size = limits.size_of_members (meant_fields ds (meaning ds) es);
-  depth = limits.depth_of_members (meant_fields ds (meaning ds) es);
-  places = terms_of_entries ds (meaning ds) es;
+  size = limits.size_of_members (meant_fields ds (meaning_of_number ds) es);
+  depth = limits.depth_of_members (meant_fields ds (meaning_of_number ds) es);
+  places = terms_of_entries ds (meaning_of_number ds) es;
 }
 
 -- it passes the checks on terms, sizes and paths
-pub record IsWithin (t : Total) : Type 0 where
+pub record IsMeasureWithin (t : Total) : Type 0 where
   pub places : t.places ≡ []
   pub size : t.size ≤ size_limit
   pub depth : t.depth ≤ step_limit
 
 -- the first of these checks that it fails
-abbrev pub IsBeyond : Total → Kind → ℕ → Type 0
-IsBeyond t kinds.NotScalar place = IsFirst place t.places
-IsBeyond t kinds.TooLarge place = (t.places ≡ []) × (size_limit < t.size) × (place ≡ 0)
-IsBeyond t kinds.TooDeep place =
+abbrev pub IsMeasureBeyond : Total → Kind → ℕ → Type 0
+IsMeasureBeyond t kinds.NotScalar place = IsFirstName place t.places
+IsMeasureBeyond t kinds.TooLarge place = (t.places ≡ []) × (size_limit < t.size) × (place ≡ 0)
+IsMeasureBeyond t kinds.TooDeep place =
     (t.places ≡ []) × (t.size ≤ size_limit) × (step_limit < t.depth) × (place ≡ 0)
-IsBeyond t _ place = ⊥
+IsMeasureBeyond t _ place = ⊥
 
 -- what is known of a use of a definition
 pub record IsUse (m : Measure) (c : Core) : Type 0 where
@@ -179,8 +179,8 @@ pub record IsUse (m : Measure) (c : Core) : Type 0 where
   pub depth : m.depth ≡ min (limits.depth c) (step_limit + 1)
 
 -- these definitions were measured
-abbrev pub IsKnown : Known → List ℕ → Type 0
-IsKnown known is =
-    (i : ℕ) → IsIn i is → (i < length known.measures.now)
+abbrev pub IsMeasureKnown : KnownMeasures → List ℕ → Type 0
+IsMeasureKnown known is =
+    (i : ℕ) → IsNodeIn i is → (i < length known.measures.now)
     × ((d : Measure) → IsUse (slice_index_or known.measures.now i d)
-    (meaning (all_of known.definitions.now) i))
+    (meaning_of_number (nodes_kept known.definitions.now) i))

@@ -7,10 +7,10 @@ use Rattle.cue_syntax.specs.Syntax as tree
 use Rattle.cue_syntax.specs.Syntax.{Expression, Elements, no_elements, element, branch, Branches}
 use Rattle.cue_syntax.specs.Syntax.{no_branches, next_branch, ellipsis, field, definition, Entries}
 use Rattle.cue_syntax.specs.Syntax.{no_entries, entry}
-use Rattle.cue_scope.specs.Definitions.{Definition, number_of}
+use Rattle.cue_scope.specs.Definitions.{Definition, number_of_name}
 
 abbrev pub uses_of_name : List Definition → Identifier → List ℕ
-uses_of_name ds (identifiers.Definition t) = option_to_list (number_of t ds)
+uses_of_name ds (identifiers.Definition t) = option_to_list (number_of_name t ds)
 uses_of_name ds _ = []
 
 -- the numbers of the definitions that an expression names, in text order, as often as it names them

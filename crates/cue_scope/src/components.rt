@@ -21,7 +21,7 @@ pub struct Components {
 
 /// A search from node to node along a path.
 #[derive(Drop)]
-struct Search<'g> {
+struct ComponentSearch<'g> {
     graph: &'g [Vec<usize>],
     /// For each node when it was seen, counted from 1, or 0.
     seen: Vec<usize>,
@@ -51,7 +51,7 @@ impl Components {
     pub fn of(alloc: Global, graph: &[Vec<usize>]) -> Result<Components, Refusal>
         ensures { IfErr result (λ r. r ≡ memory) }
     {
-        let mut search = Search {
+        let mut search = ComponentSearch {
             graph,
             seen: zeros(alloc, graph.len())?,
             low: zeros(alloc, graph.len())?,
@@ -73,7 +73,7 @@ impl Components {
     }
 
     /// Whether no node points to a component of a greater number.
-    pub fn falls(&self, graph: &[Vec<usize>]) -> bool
+    pub fn descends(&self, graph: &[Vec<usize>]) -> bool
         ensures { OnTrue result ((i j : ℕ) → PointsTo (graph_of graph.now) i j →
             slice_index self.now.numbers.items j ≤ slice_index self.now.numbers.items i) }
     {
@@ -88,7 +88,7 @@ impl Components {
     }
 
     /// Whether a node points to components of smaller numbers alone.
-    pub fn falls_from(&self, graph: &[Vec<usize>], node: usize) -> bool
+    pub fn descends_from(&self, graph: &[Vec<usize>], node: usize) -> bool
         requires { node < length graph.now }
         ensures { OnTrue result ((j : ℕ) → PointsTo (graph_of graph.now) node j →
             slice_index self.now.numbers.items j < slice_index self.now.numbers.items node) }
@@ -102,7 +102,7 @@ impl Components {
     }
 }
 
-impl<'g> Search<'g> {
+impl<'g> ComponentSearch<'g> {
     fn enter(&mut self, node: usize) -> Result<(), Refusal>
         ensures { IfErr result (λ r. r ≡ memory) }
     {

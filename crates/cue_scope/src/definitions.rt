@@ -5,8 +5,8 @@ ghost use Rattle.std.specs.Str.{bytes_eq};
 ghost use Rattle.std.specs.Map.{update};
 ghost use Rattle.cue_lattice.specs.Refusal.{memory, refusal_at};
 ghost use Rattle.cue_syntax.specs.Syntax.{entries};
-ghost use Rattle.cue_scope.specs.Definitions.{definitions, number_of, repeats, IsRepeat};
-ghost use Rattle.cue_scope.specs.Listed.{listed, definition_of};
+ghost use Rattle.cue_scope.specs.Definitions.{definitions, number_of_name, repeated_names, IsRepeat};
+ghost use Rattle.cue_scope.specs.Listed.{definition_list, definition_of};
 
 use crate::memory::push;
 use cue_lattice::{Kind, Memory, Refusal};
@@ -32,11 +32,11 @@ pub struct Definitions<'f, 't> {
     list: Vec<Definition<'f, 't>>,
     numbers: HashMap<&'f str, usize>,
     ghost numbered: { (name : List ℕ) → hash.get_by (λ k. bytes_eq name k.now) numbers
-        ≡ number_of name (listed list.items) },
+        ≡ number_of_name name (definition_list list.items) },
 }
 
 impl<'f, 't> Definitions<'f, 't> {
-    ghost use Rattle.cue_scope.specs.Kept.{all_of};
+    ghost use Rattle.cue_scope.specs.Kept.{nodes_kept};
 
     /// The definitions among the declarations of a text.
     ///
@@ -47,8 +47,8 @@ impl<'f, 't> Definitions<'f, 't> {
         alloc: Global,
         declarations: &'f [Declaration<'t>],
     ) -> Result<Definitions<'f, 't>, Refusal>
-        ensures all { IfOk result (λ r. all_of r ≡ definitions (entries declarations.now)) }
-        ensures unrepeated { OnOk result (repeats (definitions (entries declarations.now)) ≡ []) }
+        ensures all { IfOk result (λ r. nodes_kept r ≡ definitions (entries declarations.now)) }
+        ensures unrepeated { OnOk result (repeated_names (definitions (entries declarations.now)) ≡ []) }
         ensures refused { IfErr result (λ r. (r ≡ memory)
             ⊎ IsRepeat (definitions (entries declarations.now)) r) }
     {
@@ -79,14 +79,14 @@ impl<'f, 't> Definitions<'f, 't> {
 
     /// The number of the definition of this name, if there is one.
     pub fn number(&self, name: &str) -> Option<usize>
-        ensures { result ≡ number_of name.now (all_of self.now) }
+        ensures { result ≡ number_of_name name.now (nodes_kept self.now) }
     {
         self.numbers.get(name).copied()
     }
 
     /// All of them, in order.
     pub fn all(&self) -> &[Definition<'f, 't>]
-        ensures { listed result.now ≡ all_of self.now }
+        ensures { definition_list result.now ≡ nodes_kept self.now }
     {
         &self.list
     }
@@ -99,16 +99,16 @@ fn add<'f, 't>(
     definition: Definition<'f, 't>,
 ) -> Result<(), Refusal>
     requires { (name : List ℕ) → hash.get_by (λ k. bytes_eq name k.now) numbers.old
-        ≡ number_of name (listed list.old.items) }
-    ensures added { OnOk result (listed list.new.items
-        ≡ listed list.old.items ++ definition_of definition.entry ∷ []) }
+        ≡ number_of_name name (definition_list list.old.items) }
+    ensures added { OnOk result (definition_list list.new.items
+        ≡ definition_list list.old.items ++ definition_of definition.entry ∷ []) }
     ensures numbered { OnOk result ((name : List ℕ) →
         hash.get_by (λ k. bytes_eq name k.now) numbers.new
-        ≡ number_of name (listed list.new.items)) }
-    ensures unknown { OnOk result (number_of definition.entry.name.now (listed list.old.items)
+        ≡ number_of_name name (definition_list list.new.items)) }
+    ensures unknown { OnOk result (number_of_name definition.entry.name.now (definition_list list.old.items)
         ≡ None) }
     ensures refused { IfErr result (λ r. (r ≡ memory)
-        ⊎ (IsSome (number_of definition.entry.name.now (listed list.old.items))
+        ⊎ (IsSome (number_of_name definition.entry.name.now (definition_list list.old.items))
         × (r ≡ refusal_at Kind.Repeated definition.entry.from))) }
 {
     if numbers.contains_key(definition.name) {

@@ -5,14 +5,14 @@ ghost use Rattle.std.specs.Vec.{vec_capacity};
 ghost use Rattle.std.specs.List.{count_by};
 ghost use Rattle.std.specs.Bool.{OnTrue};
 ghost use Rattle.cue_lattice.specs.Refusal.{memory};
-ghost use Rattle.cue_scope.specs.Graph.{IsIn, targets, PointsTo, IsReached, Reaches, IsClosed};
+ghost use Rattle.cue_scope.specs.Graph.{IsNodeIn, targets, PointsTo, IsReached, Reaches, IsClosed};
 ghost use Rattle.cue_scope.specs.Graph.{IsFirstCycle};
 ghost use Rattle.cue_scope.specs.Ordering.{graph_of};
 ghost use Rattle.cue_scope.specs.Inner.Ordering.{first_open, is_ready};
-ghost use Rattle.cue_scope.specs.Inner.Ordering.{IsOrderOf, IsPlaced, IsStuck, Spread};
+ghost use Rattle.cue_scope.specs.Inner.Ordering.{IsOrderOf, IsPlaced, HasNoReadyNode, Spread};
 
 use crate::components::Components;
-use crate::memory::{flags, push, room, zeros};
+use crate::memory::{flags, new_numbers, push, zeros};
 use cue_lattice::Refusal;
 use std::alloc::Global;
 
@@ -45,10 +45,10 @@ pub(crate) fn order_of(alloc: Global, graph: &[Vec<usize>]) -> Result<Order, Ref
 {
     // A cycle that was found is named without asking for more memory.
     let mut passed = flags(alloc, graph.len())?;
-    let mut waiting = room(alloc, graph.len())?;
+    let mut waiting = new_numbers(alloc, graph.len())?;
     let components = Components::of(alloc, graph)?;
     let placed = place(alloc, graph, &components.nodes)?;
-    match unplaced(&placed.ranks) {
+    match find_unranked(&placed.ranks) {
         None => Ok(Order::Ordered(placed.order)),
         Some(node) => {
             let last = find_cycle(graph, &placed.ranks, &mut passed, node);
@@ -71,7 +71,7 @@ pub fn targets<'g>(graph: &'g [Vec<usize>], node: usize) -> &'g [usize]
 fn place(alloc: Global, graph: &[Vec<usize>], nodes: &[usize]) -> Result<Placed, Refusal>
     requires { IsClosed (graph_of graph.now) }
     ensures placed { IfOk result (λ r. IsPlaced (graph_of graph.now) r.order.items r.ranks.items) }
-    ensures stuck { IfOk result (λ r. IsStuck (graph_of graph.now) r.ranks.items) }
+    ensures stuck { IfOk result (λ r. HasNoReadyNode (graph_of graph.now) r.ranks.items) }
     ensures memory { IfErr result (λ r. r ≡ memory) }
 {
     let mut order = Vec::new(alloc);
@@ -102,7 +102,7 @@ fn add(order: &mut Vec<usize>, ranks: &mut Vec<usize>, node: usize) -> Result<()
 
 /// The first of the nodes that has no rank.
 fn first_open(ranks: &[usize], nodes: &[usize]) -> Option<usize>
-    requires { (j : ℕ) → IsIn j nodes.now → j < length ranks.now }
+    requires { (j : ℕ) → IsNodeIn j nodes.now → j < length ranks.now }
     ensures { result ≡ first_open ranks.now nodes.now }
 {
     for node in nodes {
@@ -129,7 +129,7 @@ fn is_ready(graph: &[Vec<usize>], ranks: &[usize], node: usize) -> bool
 fn first_ready(graph: &[Vec<usize>], ranks: &[usize]) -> Option<usize>
     requires closed { IsClosed (graph_of graph.now) }
     requires lengths { length ranks.now ≡ length graph.now }
-    ensures { MatchOption result (IsStuck (graph_of graph.now) ranks.now)
+    ensures { MatchOption result (HasNoReadyNode (graph_of graph.now) ranks.now)
         (λ i. is_ready (graph_of graph.now) ranks.now i ≡ true) }
 {
     for node in 0..ranks.len() {
@@ -141,7 +141,7 @@ fn first_ready(graph: &[Vec<usize>], ranks: &[usize]) -> Option<usize>
 }
 
 /// A node without a rank.
-fn unplaced(ranks: &[usize]) -> Option<usize>
+fn find_unranked(ranks: &[usize]) -> Option<usize>
     ensures { MatchOption result ((i : ℕ) → i < length ranks.now → 0 < slice_index ranks.now i)
         (λ i. (i < length ranks.now) × (slice_index ranks.now i ≡ 0)) }
 {
@@ -163,7 +163,7 @@ fn find_cycle(
 ) -> usize
     requires closed { IsClosed (graph_of graph.now) }
     requires lengths { length ranks.now ≡ length graph.now }
-    requires stuck { IsStuck (graph_of graph.now) ranks.now }
+    requires stuck { HasNoReadyNode (graph_of graph.now) ranks.now }
     requires inside { node < length ranks.now }
     requires unplaced { slice_index ranks.now node ≡ 0 }
     requires none { (i : ℕ) → slice_index_or passed.old.items i false ≡ false }
@@ -195,7 +195,7 @@ fn first_cycle(
     requires room { length graph.now ≤ vec_capacity waiting.old }
     ensures first { IsFirstCycle (graph_of graph.now) result × (result < length graph.now) }
 {
-    let falls = components.falls(graph);
+    let falls = components.descends(graph);
     for node in 0..last {
         if placed.ranks[node] != 0 {
             continue;
@@ -226,7 +226,7 @@ fn is_cyclic(
     ensures flags { length reached.new.items ≡ length graph.now }
     ensures room { vec_capacity waiting.new ≡ vec_capacity waiting.old }
 {
-    if falls && components.falls_from(graph, node) {
+    if falls && components.descends_from(graph, node) {
         return false;
     }
     flood(graph, reached, waiting, targets(graph, node));
@@ -234,20 +234,20 @@ fn is_cyclic(
 }
 
 /// The nodes that are reached from those in a list, which are reached too.
-pub(crate) fn reached(
+pub(crate) fn reach_all(
     alloc: Global,
     graph: &[Vec<usize>],
     from: &[usize],
 ) -> Result<Vec<bool>, Refusal>
     requires closed { IsClosed (graph_of graph.now) }
-    requires inside { (i : ℕ) → IsIn i from.now → i < length graph.now }
+    requires inside { (i : ℕ) → IsNodeIn i from.now → i < length graph.now }
     ensures length { IfOk result (λ v. length v.items ≡ length graph.now) }
     ensures reached { IfOk result (λ v. (i : ℕ) →
         (slice_index_or v.items i false ≡ true) ↔ IsReached (graph_of graph.now) from.now i) }
     ensures memory { IfErr result (λ r. r ≡ memory) }
 {
     let mut reached = flags(alloc, graph.len())?;
-    let mut waiting = room(alloc, graph.len())?;
+    let mut waiting = new_numbers(alloc, graph.len())?;
     flood(graph, &mut reached, &mut waiting, from);
     Ok(reached)
 }
@@ -256,7 +256,7 @@ pub(crate) fn reached(
 /// no more nodes wait than the graph has.
 fn flood(graph: &[Vec<usize>], reached: &mut Vec<bool>, waiting: &mut Vec<usize>, from: &[usize])
     requires closed { IsClosed (graph_of graph.now) }
-    requires inside { (i : ℕ) → IsIn i from.now → i < length graph.now }
+    requires inside { (i : ℕ) → IsNodeIn i from.now → i < length graph.now }
     requires flags { length reached.old.items ≡ length graph.now }
     requires room { length graph.now ≤ vec_capacity waiting.old }
     ensures reached { (i : ℕ) → (slice_index_or reached.new.items i false ≡ true)
@@ -285,7 +285,7 @@ fn unmark(reached: &mut Vec<bool>)
 /// Reaches each node in a list, and opens those that weren't reached before, for which there is
 /// room.
 fn spread(reached: &mut Vec<bool>, waiting: &mut Vec<usize>, nodes: &[usize])
-    requires inside { (i : ℕ) → IsIn i nodes.now → i < vec_len reached.old }
+    requires inside { (i : ℕ) → IsNodeIn i nodes.now → i < vec_len reached.old }
     requires room { count_by not reached.old.items + length waiting.old.items
         ≤ vec_capacity waiting.old }
     ensures spread { Spread reached.old.items reached.new.items waiting.old.items waiting.new.items

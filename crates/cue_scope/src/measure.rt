@@ -1,9 +1,9 @@
 ghost use Rattle.std.specs.Prelude.{◌≡◌, ◌+◌, [], ℕ, List, true, length, ◌<◌, IfErr, OnOk};
 ghost use Rattle.cue_syntax.specs.Syntax as tree;
-ghost use Rattle.cue_scope.specs.Kept.{all_of};
+ghost use Rattle.cue_scope.specs.Kept.{nodes_kept};
 ghost use Rattle.cue_scope.specs.Meaning as meaning;
 ghost use Rattle.cue_scope.specs.Measures as totals;
-ghost use Rattle.cue_scope.specs.Measures.{Total, IsMeasured, IsKnown};
+ghost use Rattle.cue_scope.specs.Measures.{Total, IsMeasured, IsMeasureKnown};
 ghost use Rattle.cue_scope.specs.Uses as using;
 ghost use Rattle.cue_scope.specs.Graph.{IsOrder, targets};
 
@@ -56,9 +56,9 @@ impl Measure {
     }
 
     /// Of parts side by side.
-    pub fn beside(self, other: Measure) -> Measure
+    pub fn join_beside(self, other: Measure) -> Measure
         ensures { (a b : Total) → IsMeasured self a → IsMeasured other b →
-            IsMeasured result (totals.join a b) }
+            IsMeasured result (totals.join_totals a b) }
     {
         Measure {
             scalar: self.scalar && other.scalar,
@@ -72,8 +72,8 @@ impl Measure {
     }
 
     /// With so much more size.
-    pub fn larger(self, more: usize) -> Measure
-        ensures { (t : Total) → IsMeasured self t → IsMeasured result (totals.larger more t) }
+    pub fn add_size(self, more: usize) -> Measure
+        ensures { (t : Total) → IsMeasured self t → IsMeasured result (totals.add_to_size more t) }
     {
         Measure {
             scalar: self.scalar,
@@ -132,7 +132,7 @@ impl Measure {
     }
 
     /// Behind a chain of labels, each of which is in a struct of its own.
-    pub fn behind(self, chain: &[Label]) -> Measure
+    pub fn behind_chain(self, chain: &[Label]) -> Measure
         ensures { (t : Total) → IsMeasured self t →
             IsMeasured result (totals.behind_labels (length chain.now) t) }
     {
@@ -154,9 +154,9 @@ impl Measure {
     ///
     /// `NotScalar`, `TooLarge` or `TooDeep`, the first that is.
     pub fn check(self) -> Result<(), Refusal>
-        ensures within { OnOk result ((t : Total) → IsMeasured self t → totals.IsWithin t) }
+        ensures within { OnOk result ((t : Total) → IsMeasured self t → totals.IsMeasureWithin t) }
         ensures beyond { IfErr result (λ r. (t : Total) → IsMeasured self t →
-            totals.IsBeyond t r.kind r.place) }
+            totals.IsMeasureBeyond t r.kind r.place) }
     {
         if let Some(place) = self.term {
             return Err(Refusal::at(Kind::NotScalar, place));
@@ -185,33 +185,33 @@ impl Measure {
 
 /// What is known of definitions: the measure of a use of each, as far as they were measured.
 #[derive(Clone, Copy, Drop)]
-pub struct Known<'a, 'f, 't> {
+pub struct KnownMeasures<'a, 'f, 't> {
     pub definitions: &'a Definitions<'f, 't>,
     pub measures: &'a [Measure],
 }
 
-impl<'a, 'f, 't> Known<'a, 'f, 't> {
+impl<'a, 'f, 't> KnownMeasures<'a, 'f, 't> {
     /// A name.
     fn name(&self, name: &Identifier) -> Measure
-        ensures { IsKnown self.now (using.uses_of_name (all_of self.now.definitions.now) name.now) →
+        ensures { IsMeasureKnown self.now (using.uses_of_name (nodes_kept self.now.definitions.now) name.now) →
             IsMeasured result (totals.total_of
-            (meaning.meant_name (all_of self.now.definitions.now)
-            (meaning.meaning (all_of self.now.definitions.now)) name.now) []) }
+            (meaning.meant_name (nodes_kept self.now.definitions.now)
+            (meaning.meaning_of_number (nodes_kept self.now.definitions.now)) name.now) []) }
     {
         match name {
             Identifier::Plain(_) => Measure::leaf(true),
             Identifier::Hidden(name) => Measure::leaf(name.as_str() != "_"),
-            Identifier::Definition(name) => self.used(name.as_str()),
+            Identifier::Definition(name) => self.use_definition(name.as_str()),
         }
     }
 
     /// A use of a definition.
-    fn used(&self, name: &str) -> Measure
-        ensures { IsKnown self.now (using.uses_of_name (all_of self.now.definitions.now)
+    fn use_definition(&self, name: &str) -> Measure
+        ensures { IsMeasureKnown self.now (using.uses_of_name (nodes_kept self.now.definitions.now)
             (Identifier.Definition name.now)) →
             IsMeasured result (totals.total_of
-            (meaning.meant_name (all_of self.now.definitions.now)
-            (meaning.meaning (all_of self.now.definitions.now)) (Identifier.Definition name.now))
+            (meaning.meant_name (nodes_kept self.now.definitions.now)
+            (meaning.meaning_of_number (nodes_kept self.now.definitions.now)) (Identifier.Definition name.now))
             []) }
     {
         match self.definitions.number(name) {
@@ -230,21 +230,21 @@ impl<'a, 'f, 't> Known<'a, 'f, 't> {
 
     /// A use of a definition, by its number.
     pub fn definition(&self, number: usize) -> Measure
-        requires { number < length (all_of self.now.definitions.now) }
-        ensures { (order : List ℕ) → IsOrder (using.graph (all_of self.now.definitions.now)) order →
-            IsKnown self.now (targets (using.graph (all_of self.now.definitions.now)) number) →
-            totals.IsUse result (meaning.meaning (all_of self.now.definitions.now) number) }
+        requires { number < length (nodes_kept self.now.definitions.now) }
+        ensures { (order : List ℕ) → IsOrder (using.graph (nodes_kept self.now.definitions.now)) order →
+            IsMeasureKnown self.now (targets (using.graph (nodes_kept self.now.definitions.now)) number) →
+            totals.IsUse result (meaning.meaning_of_number (nodes_kept self.now.definitions.now) number) }
     {
         let definition = &self.definitions.all()[number];
         let value = self.expression(definition.value);
-        value.behind(definition.chain).larger(1)
+        value.behind_chain(definition.chain).add_size(1)
     }
 
     /// The regular declarations of a text, with the terms of its definitions.
     pub fn file(&self, declarations: &[Declaration]) -> Measure
-        ensures { IsKnown self.now (using.uses_of_entries (all_of self.now.definitions.now)
+        ensures { IsMeasureKnown self.now (using.uses_of_entries (nodes_kept self.now.definitions.now)
             (tree.entries declarations.now)) →
-            IsMeasured result (totals.total_of_file (all_of self.now.definitions.now)
+            IsMeasured result (totals.total_of_file (nodes_kept self.now.definitions.now)
             (tree.entries declarations.now)) }
     {
         let mut all = Measure::none();
@@ -252,10 +252,10 @@ impl<'a, 'f, 't> Known<'a, 'f, 't> {
             match declaration {
                 Declaration::Ellipsis => {}
                 Declaration::Field { chain, value, .. } => {
-                    all = all.beside(self.expression(value).behind(chain).field());
+                    all = all.join_beside(self.expression(value).behind_chain(chain).field());
                 }
                 Declaration::Definition { value, .. } => {
-                    all = all.beside(self.expression(value).only_terms());
+                    all = all.join_beside(self.expression(value).only_terms());
                 }
             }
         }
@@ -265,9 +265,9 @@ impl<'a, 'f, 't> Known<'a, 'f, 't> {
     /// An expression.
     #[cycle(measure)]
     pub fn expression(&self, expression: &Expr) -> Measure
-        ensures { IsKnown self.now (using.uses (all_of self.now.definitions.now)
+        ensures { IsMeasureKnown self.now (using.uses (nodes_kept self.now.definitions.now)
             (tree.expression expression.now)) →
-            IsMeasured result (totals.total (all_of self.now.definitions.now)
+            IsMeasured result (totals.total_measure (nodes_kept self.now.definitions.now)
             (tree.expression expression.now)) }
     {
         match expression {
@@ -276,10 +276,12 @@ impl<'a, 'f, 't> Known<'a, 'f, 't> {
             Expr::Struct { declarations, .. } => self.declarations(declarations).literal(1),
             Expr::Close { declarations, .. } => self.declarations(declarations).literal(2),
             Expr::List { elements, rest, .. } => {
-                self.elements(elements).beside(self.rest(rest)).literal(1)
+                self.elements(elements)
+                    .join_beside(self.rest(rest))
+                    .literal(1)
             }
-            Expr::Conjunction(parts) => self.parts(parts).larger(1),
-            Expr::Disjunction(terms) => self.terms(terms).larger(1),
+            Expr::Conjunction(parts) => self.parts(parts).add_size(1),
+            Expr::Disjunction(terms) => self.terms(terms).add_size(1),
             Expr::Integer(_) => Measure::leaf(true),
             Expr::Text(_) => Measure::leaf(true),
             Expr::Bottom => Measure::leaf(true),
@@ -292,20 +294,20 @@ impl<'a, 'f, 't> Known<'a, 'f, 't> {
     /// The declarations of a struct literal.
     #[cycle(measure)]
     fn declarations(&self, declarations: &[Declaration]) -> Measure
-        ensures { IsKnown self.now (using.uses_of_entries (all_of self.now.definitions.now)
+        ensures { IsMeasureKnown self.now (using.uses_of_entries (nodes_kept self.now.definitions.now)
             (tree.entries declarations.now)) →
-            IsMeasured result (totals.total_of_entries (all_of self.now.definitions.now)
+            IsMeasured result (totals.total_of_entries (nodes_kept self.now.definitions.now)
             (tree.entries declarations.now)) }
     {
         let mut all = Measure::none();
         for declaration in declarations {
             match declaration {
-                Declaration::Ellipsis => all = all.larger(1),
+                Declaration::Ellipsis => all = all.add_size(1),
                 Declaration::Field { chain, value, .. } => {
-                    all = all.beside(self.expression(value).behind(chain).field());
+                    all = all.join_beside(self.expression(value).behind_chain(chain).field());
                 }
                 Declaration::Definition { value, .. } => {
-                    all = all.beside(self.expression(value).only_terms());
+                    all = all.join_beside(self.expression(value).only_terms());
                 }
             }
         }
@@ -315,13 +317,13 @@ impl<'a, 'f, 't> Known<'a, 'f, 't> {
     /// The parts of a conjunction.
     #[cycle(measure)]
     fn parts(&self, parts: &[Expr]) -> Measure
-        ensures { IsKnown self.now (using.uses_of_elements (all_of self.now.definitions.now)
-            (tree.elements parts.now)) → IsMeasured result
-            (totals.total_of_parts (all_of self.now.definitions.now) (tree.elements parts.now)) }
+        ensures { IsMeasureKnown self.now (using.uses_of_elements (nodes_kept self.now.definitions.now)
+            (tree.elements_of_list parts.now)) → IsMeasured result
+            (totals.total_of_parts (nodes_kept self.now.definitions.now) (tree.elements_of_list parts.now)) }
     {
         let mut all = Measure::none();
         for part in parts {
-            all = all.beside(self.expression(part));
+            all = all.join_beside(self.expression(part));
         }
         all
     }
@@ -329,14 +331,14 @@ impl<'a, 'f, 't> Known<'a, 'f, 't> {
     /// The elements of a list.
     #[cycle(measure)]
     fn elements(&self, elements: &[Expr]) -> Measure
-        ensures { IsKnown self.now (using.uses_of_elements (all_of self.now.definitions.now)
-            (tree.elements elements.now)) → IsMeasured result
-            (totals.total_of_elements (all_of self.now.definitions.now)
-            (tree.elements elements.now)) }
+        ensures { IsMeasureKnown self.now (using.uses_of_elements (nodes_kept self.now.definitions.now)
+            (tree.elements_of_list elements.now)) → IsMeasured result
+            (totals.total_of_elements (nodes_kept self.now.definitions.now)
+            (tree.elements_of_list elements.now)) }
     {
         let mut all = Measure::none();
         for element in elements {
-            all = all.beside(self.expression(element).element());
+            all = all.join_beside(self.expression(element).element());
         }
         all
     }
@@ -344,27 +346,27 @@ impl<'a, 'f, 't> Known<'a, 'f, 't> {
     /// What stands behind the last element of a list.
     #[cycle(measure)]
     fn rest(&self, rest: &Rest) -> Measure
-        ensures { IsKnown self.now (using.uses_of_rest (all_of self.now.definitions.now)
-            (tree.rest_tree rest.now)) → IsMeasured result
-            (totals.total_of_rest (all_of self.now.definitions.now) (tree.rest_tree rest.now)) }
+        ensures { IsMeasureKnown self.now (using.uses_of_rest (nodes_kept self.now.definitions.now)
+            (tree.rest_of_tree rest.now)) → IsMeasured result
+            (totals.total_of_rest (nodes_kept self.now.definitions.now) (tree.rest_of_tree rest.now)) }
     {
         match rest {
             Rest::Ends => Measure::none(),
-            Rest::GoesOn => Measure::none().larger(1),
-            Rest::Each(each) => self.expression(each).element().larger(1),
+            Rest::GoesOn => Measure::none().add_size(1),
+            Rest::Each(each) => self.expression(each).element().add_size(1),
         }
     }
 
     /// The terms of a disjunction.
     #[cycle(measure)]
     fn terms(&self, terms: &[Term]) -> Measure
-        ensures { IsKnown self.now (using.uses_of_branches (all_of self.now.definitions.now)
-            (tree.branches terms.now)) → IsMeasured result
-            (totals.total_of_terms (all_of self.now.definitions.now) (tree.branches terms.now)) }
+        ensures { IsMeasureKnown self.now (using.uses_of_branches (nodes_kept self.now.definitions.now)
+            (tree.branches_of_list terms.now)) → IsMeasured result
+            (totals.total_of_terms (nodes_kept self.now.definitions.now) (tree.branches_of_list terms.now)) }
     {
         let mut all = Measure::none();
         for term in terms {
-            all = all.beside(self.expression(&term.value).term(term.from));
+            all = all.join_beside(self.expression(&term.value).term(term.from));
         }
         all
     }

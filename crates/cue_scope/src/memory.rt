@@ -33,7 +33,7 @@ pub fn flags(alloc: Global, count: usize) -> Result<Vec<bool>, Refusal>
 }
 
 /// Room for so many numbers.
-pub fn room(alloc: Global, count: usize) -> Result<Vec<usize>, Refusal>
+pub fn new_numbers(alloc: Global, count: usize) -> Result<Vec<usize>, Refusal>
     ensures room { IfOk result (λ v. vec_capacity v ≡ count) }
     ensures memory { IfErr result (λ refusal. refusal ≡ memory) }
 {
@@ -41,7 +41,7 @@ pub fn room(alloc: Global, count: usize) -> Result<Vec<usize>, Refusal>
 }
 
 /// So many times the measure of nothing.
-pub fn unmeasured(alloc: Global, count: usize) -> Result<Vec<Measure>, Refusal>
+pub fn new_measures(alloc: Global, count: usize) -> Result<Vec<Measure>, Refusal>
     ensures length { IfOk result (λ v. length v.items ≡ count) }
     ensures memory { IfErr result (λ refusal. refusal ≡ memory) }
 {

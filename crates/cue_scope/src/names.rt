@@ -3,15 +3,15 @@ ghost use Rattle.cue_syntax.specs.Syntax as tree;
 ghost use Rattle.cue_scope.specs.Names as naming;
 ghost use Rattle.cue_scope.specs.Uses as using;
 ghost use Rattle.cue_scope.specs.Definitions as defining;
-ghost use Rattle.cue_scope.specs.Kept.{all_of};
+ghost use Rattle.cue_scope.specs.Kept.{nodes_kept};
 ghost use Rattle.cue_scope.specs.Ordering.{graph_of};
-ghost use Rattle.cue_scope.specs.Scopes.{scope_of, definitions_at, IsWalked, IsStopped};
+ghost use Rattle.cue_scope.specs.Scopes.{scope_of, definitions_at, IsWalked, IsScopeStopped};
 
 use crate::definitions::Definitions;
 use crate::memory::push;
 use crate::named::{Named, is_literal};
 use crate::scope::Scope;
-use crate::words::Labels;
+use crate::words::WordLabels;
 use cue_lattice::{Kind, Refusal};
 use cue_syntax::{Declaration, Expr, Identifier, Label, Rest, Term};
 use std::alloc::Global;
@@ -37,16 +37,16 @@ impl Uses {
         definitions: &Definitions<'f, 't>,
         declarations: &'f [Declaration<'t>],
     ) -> Result<Uses, Refusal>
-        requires { all_of definitions.now ≡ defining.definitions (tree.entries declarations.now) }
+        requires { nodes_kept definitions.now ≡ defining.definitions (tree.entries declarations.now) }
         ensures named { OnOk result (naming.name_faults (tree.entries declarations.now) ≡ []) }
         ensures graph { IfOk result (λ u. graph_of u.of_definitions.items
-            ≡ using.graph (all_of definitions.now)) }
+            ≡ using.graph (nodes_kept definitions.now)) }
         ensures fields { IfOk result (λ u. u.of_fields.items
-            ≡ using.uses_of_fields (all_of definitions.now) (tree.entries declarations.now)) }
-        ensures refused { IfErr result (IsStopped
+            ≡ using.uses_of_fields (nodes_kept definitions.now) (tree.entries declarations.now)) }
+        ensures refused { IfErr result (IsScopeStopped
             (naming.name_faults (tree.entries declarations.now))) }
     {
-        let outside = Place {
+        let outside = NameScope {
             alloc,
             definitions,
             scope: Scope::Outermost,
@@ -58,30 +58,30 @@ impl Uses {
 /// A place in a text, from where names are looked up. Each look-up puts the number of the
 /// definition that a name uses behind those that were used before.
 #[derive(Clone, Copy, Drop)]
-pub struct Place<'a, 'f, 't> {
+pub struct NameScope<'a, 'f, 't> {
     pub alloc: Global,
     pub definitions: &'a Definitions<'f, 't>,
     pub scope: Scope<'a, 'f, 't>,
 }
 
-impl<'a, 'f, 't> Place<'a, 'f, 't> {
+impl<'a, 'f, 't> NameScope<'a, 'f, 't> {
     /// The declarations of a text, which is a struct literal of its own.
     fn file(&self, declarations: &'f [Declaration<'t>]) -> Result<Uses, Refusal>
         ensures named { OnOk result (naming.faults_of_entries (definitions_at self.now)
-            (naming.inside (tree.entries declarations.now) (scope_of self.now.scope))
+            (naming.scope_inside (tree.entries declarations.now) (scope_of self.now.scope))
             (tree.entries declarations.now) ≡ []) }
         ensures graph { IfOk result (λ u. graph_of u.of_definitions.items
             ≡ map (λ d. using.uses (definitions_at self.now) d.value)
             (defining.definitions (tree.entries declarations.now))) }
         ensures fields { IfOk result (λ u. u.of_fields.items
             ≡ using.uses_of_fields (definitions_at self.now) (tree.entries declarations.now)) }
-        ensures refused { IfErr result (IsStopped
+        ensures refused { IfErr result (IsScopeStopped
             (naming.faults_of_entries (definitions_at self.now)
-            (naming.inside (tree.entries declarations.now) (scope_of self.now.scope))
+            (naming.scope_inside (tree.entries declarations.now) (scope_of self.now.scope))
             (tree.entries declarations.now))) }
     {
-        let labels = Labels::of(declarations);
-        let inner = Place {
+        let labels = WordLabels::of(declarations);
+        let inner = NameScope {
             alloc: self.alloc,
             definitions: self.definitions,
             scope: Scope::Literal {
@@ -101,7 +101,7 @@ impl<'a, 'f, 't> Place<'a, 'f, 't> {
             (defining.definitions (tree.entries declarations.now))) }
         ensures fields { IfOk result (λ u. u.of_fields.items
             ≡ using.uses_of_fields (definitions_at self.now) (tree.entries declarations.now)) }
-        ensures refused { IfErr result (IsStopped
+        ensures refused { IfErr result (IsScopeStopped
             (naming.faults_of_entries (definitions_at self.now) (scope_of self.now.scope)
             (tree.entries declarations.now))) }
     {
@@ -111,11 +111,11 @@ impl<'a, 'f, 't> Place<'a, 'f, 't> {
             match declaration {
                 Declaration::Ellipsis => {}
                 Declaration::Field { chain, value, .. } => {
-                    self.value(&mut of_fields, chain, value)?;
+                    self.look_up_value(&mut of_fields, chain, value)?;
                 }
                 Declaration::Definition { chain, value, .. } => {
                     let mut uses = Vec::new(self.alloc);
-                    self.value(&mut uses, chain, value)?;
+                    self.look_up_value(&mut uses, chain, value)?;
                     push(&mut of_definitions, uses)?;
                 }
             }
@@ -129,17 +129,17 @@ impl<'a, 'f, 't> Place<'a, 'f, 't> {
     /// Looks up a name.
     fn name(&self, uses: &mut Vec<usize>, name: &Identifier, from: usize) -> Result<(), Refusal>
         ensures walked { OnOk result (IsWalked
-            (naming.fault_of (definitions_at self.now) (scope_of self.now.scope) name.now from)
+            (naming.fault_of_name (definitions_at self.now) (scope_of self.now.scope) name.now from)
             (using.uses_of_name (definitions_at self.now) name.now) uses.old.items uses.new.items) }
-        ensures stopped { IfErr result (IsStopped
-            (naming.fault_of (definitions_at self.now) (scope_of self.now.scope) name.now from)) }
+        ensures stopped { IfErr result (IsScopeStopped
+            (naming.fault_of_name (definitions_at self.now) (scope_of self.now.scope) name.now from)) }
     {
         match name {
             Identifier::Definition(name) => match self.definitions.number(name.as_str()) {
                 Some(number) => push(uses, number),
                 None => Err(Refusal::at(Kind::UnknownName, from)),
             },
-            Identifier::Plain(name) => self.plain(name.as_str(), from),
+            Identifier::Plain(name) => self.look_up_plain(name.as_str(), from),
             Identifier::Hidden(name) => {
                 if name.as_str() == "_" {
                     Ok(())
@@ -151,11 +151,11 @@ impl<'a, 'f, 't> Place<'a, 'f, 't> {
     }
 
     /// Looks up a plain name.
-    fn plain(&self, name: &str, from: usize) -> Result<(), Refusal>
-        ensures walked { OnOk result (naming.fault_of (definitions_at self.now)
+    fn look_up_plain(&self, name: &str, from: usize) -> Result<(), Refusal>
+        ensures walked { OnOk result (naming.fault_of_name (definitions_at self.now)
             (scope_of self.now.scope) (Identifier.Plain name.now) from ≡ []) }
-        ensures stopped { IfErr result (IsStopped
-            (naming.fault_of (definitions_at self.now) (scope_of self.now.scope)
+        ensures stopped { IfErr result (IsScopeStopped
+            (naming.fault_of_name (definitions_at self.now) (scope_of self.now.scope)
             (Identifier.Plain name.now) from)) }
     {
         if is_literal(name) {
@@ -173,7 +173,7 @@ impl<'a, 'f, 't> Place<'a, 'f, 't> {
     /// Looks up `close`, which is called.
     fn close(&self, from: usize) -> Result<(), Refusal>
         ensures walked { OnOk result (naming.fault_of_close (scope_of self.now.scope) from ≡ []) }
-        ensures stopped { IfErr result (IsStopped
+        ensures stopped { IfErr result (IsScopeStopped
             (naming.fault_of_close (scope_of self.now.scope) from)) }
     {
         if self.scope.has("close") {
@@ -184,7 +184,7 @@ impl<'a, 'f, 't> Place<'a, 'f, 't> {
 
     /// What stands behind a chain of labels.
     #[cycle(names)]
-    pub fn value(
+    pub fn look_up_value(
         &self,
         uses: &mut Vec<usize>,
         chain: &'f [Label<'t>],
@@ -192,14 +192,14 @@ impl<'a, 'f, 't> Place<'a, 'f, 't> {
     ) -> Result<(), Refusal>
         ensures walked { OnOk result (IsWalked
             (naming.faults (definitions_at self.now)
-            (naming.behind chain.now (scope_of self.now.scope)) (tree.expression value.now))
+            (naming.scope_behind chain.now (scope_of self.now.scope)) (tree.expression value.now))
             (using.uses (definitions_at self.now) (tree.expression value.now)) uses.old.items
             uses.new.items) }
-        ensures stopped { IfErr result (IsStopped
+        ensures stopped { IfErr result (IsScopeStopped
             (naming.faults (definitions_at self.now)
-            (naming.behind chain.now (scope_of self.now.scope)) (tree.expression value.now))) }
+            (naming.scope_behind chain.now (scope_of self.now.scope)) (tree.expression value.now))) }
     {
-        let inner = Place {
+        let inner = NameScope {
             alloc: self.alloc,
             definitions: self.definitions,
             scope: Scope::Chain {
@@ -218,7 +218,7 @@ impl<'a, 'f, 't> Place<'a, 'f, 't> {
             (tree.expression expression.now))
             (using.uses (definitions_at self.now) (tree.expression expression.now)) uses.old.items
             uses.new.items) }
-        ensures stopped { IfErr result (IsStopped
+        ensures stopped { IfErr result (IsScopeStopped
             (naming.faults (definitions_at self.now) (scope_of self.now.scope)
             (tree.expression expression.now))) }
     {
@@ -258,16 +258,16 @@ impl<'a, 'f, 't> Place<'a, 'f, 't> {
     ) -> Result<(), Refusal>
         ensures walked { OnOk result (IsWalked
             (naming.faults_of_entries (definitions_at self.now)
-            (naming.inside (tree.entries declarations.now) (scope_of self.now.scope))
+            (naming.scope_inside (tree.entries declarations.now) (scope_of self.now.scope))
             (tree.entries declarations.now)) (using.uses_of_entries (definitions_at self.now)
             (tree.entries declarations.now)) uses.old.items uses.new.items) }
-        ensures stopped { IfErr result (IsStopped
+        ensures stopped { IfErr result (IsScopeStopped
             (naming.faults_of_entries (definitions_at self.now)
-            (naming.inside (tree.entries declarations.now) (scope_of self.now.scope))
+            (naming.scope_inside (tree.entries declarations.now) (scope_of self.now.scope))
             (tree.entries declarations.now))) }
     {
-        let labels = Labels::of(declarations);
-        let inner = Place {
+        let labels = WordLabels::of(declarations);
+        let inner = NameScope {
             alloc: self.alloc,
             definitions: self.definitions,
             scope: Scope::Literal {
@@ -289,15 +289,17 @@ impl<'a, 'f, 't> Place<'a, 'f, 't> {
             (naming.faults_of_entries (definitions_at self.now) (scope_of self.now.scope)
             (tree.entries declarations.now)) (using.uses_of_entries (definitions_at self.now)
             (tree.entries declarations.now)) uses.old.items uses.new.items) }
-        ensures stopped { IfErr result (IsStopped
+        ensures stopped { IfErr result (IsScopeStopped
             (naming.faults_of_entries (definitions_at self.now) (scope_of self.now.scope)
             (tree.entries declarations.now))) }
     {
         for declaration in declarations {
             match declaration {
                 Declaration::Ellipsis => {}
-                Declaration::Field { chain, value, .. } => self.value(uses, chain, value)?,
-                Declaration::Definition { chain, value, .. } => self.value(uses, chain, value)?,
+                Declaration::Field { chain, value, .. } => self.look_up_value(uses, chain, value)?,
+                Declaration::Definition { chain, value, .. } => self.look_up_value(
+                    uses, chain, value,
+                )?,
             }
         }
         Ok(())
@@ -308,11 +310,11 @@ impl<'a, 'f, 't> Place<'a, 'f, 't> {
     fn elements(&self, uses: &mut Vec<usize>, elements: &'f [Expr<'t>]) -> Result<(), Refusal>
         ensures walked { OnOk result (IsWalked
             (naming.faults_of_elements (definitions_at self.now) (scope_of self.now.scope)
-            (tree.elements elements.now)) (using.uses_of_elements (definitions_at self.now)
-            (tree.elements elements.now)) uses.old.items uses.new.items) }
-        ensures stopped { IfErr result (IsStopped
+            (tree.elements_of_list elements.now)) (using.uses_of_elements (definitions_at self.now)
+            (tree.elements_of_list elements.now)) uses.old.items uses.new.items) }
+        ensures stopped { IfErr result (IsScopeStopped
             (naming.faults_of_elements (definitions_at self.now) (scope_of self.now.scope)
-            (tree.elements elements.now))) }
+            (tree.elements_of_list elements.now))) }
     {
         for element in elements {
             self.expression(uses, element)?;
@@ -325,11 +327,11 @@ impl<'a, 'f, 't> Place<'a, 'f, 't> {
     fn rest(&self, uses: &mut Vec<usize>, rest: &'f Rest<'t>) -> Result<(), Refusal>
         ensures walked { OnOk result (IsWalked
             (naming.faults_of_rest (definitions_at self.now) (scope_of self.now.scope)
-            (tree.rest_tree rest.now)) (using.uses_of_rest (definitions_at self.now)
-            (tree.rest_tree rest.now)) uses.old.items uses.new.items) }
-        ensures stopped { IfErr result (IsStopped
+            (tree.rest_of_tree rest.now)) (using.uses_of_rest (definitions_at self.now)
+            (tree.rest_of_tree rest.now)) uses.old.items uses.new.items) }
+        ensures stopped { IfErr result (IsScopeStopped
             (naming.faults_of_rest (definitions_at self.now) (scope_of self.now.scope)
-            (tree.rest_tree rest.now))) }
+            (tree.rest_of_tree rest.now))) }
     {
         match rest {
             Rest::Ends => Ok(()),
@@ -343,11 +345,11 @@ impl<'a, 'f, 't> Place<'a, 'f, 't> {
     fn terms(&self, uses: &mut Vec<usize>, terms: &'f [Term<'t>]) -> Result<(), Refusal>
         ensures walked { OnOk result (IsWalked
             (naming.faults_of_branches (definitions_at self.now) (scope_of self.now.scope)
-            (tree.branches terms.now)) (using.uses_of_branches (definitions_at self.now)
-            (tree.branches terms.now)) uses.old.items uses.new.items) }
-        ensures stopped { IfErr result (IsStopped
+            (tree.branches_of_list terms.now)) (using.uses_of_branches (definitions_at self.now)
+            (tree.branches_of_list terms.now)) uses.old.items uses.new.items) }
+        ensures stopped { IfErr result (IsScopeStopped
             (naming.faults_of_branches (definitions_at self.now) (scope_of self.now.scope)
-            (tree.branches terms.now))) }
+            (tree.branches_of_list terms.now))) }
     {
         for term in terms {
             self.expression(uses, &term.value)?;

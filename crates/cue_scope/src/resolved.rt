@@ -6,22 +6,22 @@ ghost use Rattle.cue_scope.specs.Core as core;
 ghost use Rattle.cue_scope.specs.Definitions as defining;
 ghost use Rattle.cue_scope.specs.Files.{entries_of};
 ghost use Rattle.cue_scope.specs.Graph as graphs;
-ghost use Rattle.cue_scope.specs.Kept.{all_of};
+ghost use Rattle.cue_scope.specs.Kept.{nodes_kept};
 ghost use Rattle.cue_scope.specs.Meaning as meaning;
 ghost use Rattle.cue_scope.specs.Measures as totals;
 ghost use Rattle.cue_scope.specs.Measures.{IsUse};
 ghost use Rattle.cue_scope.specs.Ordering.{graph_of};
-ghost use Rattle.cue_scope.specs.Refusing.{IsLegal, Refuses, IsCycleAt};
+ghost use Rattle.cue_scope.specs.Refusing.{IsLegalTree, TextRefuses, IsCycleAt};
 ghost use Rattle.cue_scope.specs.Limits as limits;
-ghost use Rattle.cue_scope.specs.Reached.{IsReachedOrder, times};
+ghost use Rattle.cue_scope.specs.Reached.{IsReachedOrder, times_in_list};
 ghost use Rattle.cue_scope.specs.Written.{written_uses};
 ghost use Rattle.cue_scope.specs.Uses as using;
 
 use crate::counts::counts_of;
 use crate::definitions::Definitions;
-use crate::graph::{Order, order_of, reached};
-use crate::measure::{Known, Measure};
-use crate::memory::{push, unmeasured};
+use crate::graph::{Order, order_of, reach_all};
+use crate::measure::{KnownMeasures, Measure};
+use crate::memory::{new_measures, push};
 use crate::names::Uses;
 use cue_lattice::{Kind, Refusal};
 use cue_syntax::{Declaration, File};
@@ -67,18 +67,18 @@ impl<'f, 't> Model for Resolved<'f, 't> {
 /// by the first name; `Cycle`; `NotScalar`; `TooLarge`; `TooDeep`. Each comes with the place that
 /// it names. And `Memory`.
 pub fn resolve<'f, 't>(alloc: Global, file: &'f File<'t>) -> Result<Resolved<'f, 't>, Refusal>
-    ensures legal { OnOk result (IsLegal (entries_of file.now)) }
+    ensures legal { OnOk result (IsLegalTree (entries_of file.now)) }
     ensures resolved { IfOk result (λ r. r ≡ file.now) }
-    ensures refused { IfErr result (λ r. (r ≡ memory) ⊎ Refuses (entries_of file.now) r) }
+    ensures refused { IfErr result (λ r. (r ≡ memory) ⊎ TextRefuses (entries_of file.now) r) }
 {
     let declarations = file.declarations.as_slice();
     let definitions = Definitions::of(alloc, declarations)?;
     let uses = Uses::of(alloc, &definitions, declarations)?;
-    let order = ordered(alloc, &definitions, &uses)?;
+    let order = order_definitions(alloc, &definitions, &uses)?;
     let measures = measures_of(alloc, &definitions, &order)?;
     let whole = measure(&definitions, &measures, declarations);
     whole.check()?;
-    let order = kept(alloc, &uses.of_definitions, &uses.of_fields, &order)?;
+    let order = keep_reached(alloc, &uses.of_definitions, &uses.of_fields, &order)?;
     let counts = counts_of(alloc, &uses.of_definitions, &uses.of_fields, &order)?;
     Ok(Resolved {
         file,
@@ -91,13 +91,17 @@ pub fn resolve<'f, 't>(alloc: Global, file: &'f File<'t>) -> Result<Resolved<'f,
 }
 
 /// The definitions in an order in which each comes after those that it uses.
-fn ordered(alloc: Global, definitions: &Definitions, uses: &Uses) -> Result<Vec<usize>, Refusal>
-    requires { graph_of uses.now.of_definitions.items ≡ using.graph (all_of definitions.now) }
-    ensures acyclic { OnOk result (graphs.IsAcyclic (using.graph (all_of definitions.now))) }
+fn order_definitions(
+    alloc: Global,
+    definitions: &Definitions,
+    uses: &Uses,
+) -> Result<Vec<usize>, Refusal>
+    requires { graph_of uses.now.of_definitions.items ≡ using.graph (nodes_kept definitions.now) }
+    ensures acyclic { OnOk result (graphs.IsAcyclic (using.graph (nodes_kept definitions.now))) }
     ensures ordered { IfOk result (λ v. graphs.IsOrder
-        (using.graph (all_of definitions.now)) v.items) }
+        (using.graph (nodes_kept definitions.now)) v.items) }
     ensures refused { IfErr result (λ r. (r ≡ memory)
-        ⊎ ((r.kind ≡ Kind.Cycle) × IsCycleAt (all_of definitions.now) r.place)) }
+        ⊎ ((r.kind ≡ Kind.Cycle) × IsCycleAt (nodes_kept definitions.now) r.place)) }
 {
     match order_of(alloc, &uses.of_definitions)? {
         Order::Ordered(order) => Ok(order),
@@ -114,16 +118,16 @@ fn measures_of(
     definitions: &Definitions,
     order: &[usize],
 ) -> Result<Vec<Measure>, Refusal>
-    requires { graphs.IsOrder (using.graph (all_of definitions.now)) order.now }
-    ensures length { IfOk result (λ v. length v.items ≡ length (all_of definitions.now)) }
+    requires { graphs.IsOrder (using.graph (nodes_kept definitions.now)) order.now }
+    ensures length { IfOk result (λ v. length v.items ≡ length (nodes_kept definitions.now)) }
     ensures measured { IfOk result (λ v. (i : ℕ) (d : Measure) →
-        i < length (all_of definitions.now) →
-        IsUse (slice_index_or v.items i d) (meaning.meaning (all_of definitions.now) i)) }
+        i < length (nodes_kept definitions.now) →
+        IsUse (slice_index_or v.items i d) (meaning.meaning_of_number (nodes_kept definitions.now) i)) }
     ensures memory { IfErr result (λ r. r ≡ memory) }
 {
-    let mut measures = unmeasured(alloc, definitions.all().len())?;
+    let mut measures = new_measures(alloc, definitions.all().len())?;
     for number in order {
-        let known = Known {
+        let known = KnownMeasures {
             definitions,
             measures: &measures,
         };
@@ -135,13 +139,13 @@ fn measures_of(
 
 /// The measure of the struct that a text means, with the terms of its definitions.
 fn measure(definitions: &Definitions, measures: &[Measure], declarations: &[Declaration]) -> Measure
-    requires length { length measures.now ≡ length (all_of definitions.now) }
-    requires measured { (i : ℕ) (d : Measure) → i < length (all_of definitions.now) →
-        IsUse (slice_index_or measures.now i d) (meaning.meaning (all_of definitions.now) i) }
+    requires length { length measures.now ≡ length (nodes_kept definitions.now) }
+    requires measured { (i : ℕ) (d : Measure) → i < length (nodes_kept definitions.now) →
+        IsUse (slice_index_or measures.now i d) (meaning.meaning_of_number (nodes_kept definitions.now) i) }
     ensures { totals.IsMeasured result (totals.as_literal 1
-        (totals.total_of_file (all_of definitions.now) (entries declarations.now))) }
+        (totals.total_of_file (nodes_kept definitions.now) (entries declarations.now))) }
 {
-    let known = Known {
+    let known = KnownMeasures {
         definitions,
         measures,
     };
@@ -149,19 +153,19 @@ fn measure(definitions: &Definitions, measures: &[Measure], declarations: &[Decl
 }
 
 /// Those nodes of an order that are reached from some nodes.
-fn kept(
+fn keep_reached(
     alloc: Global,
     graph: &[Vec<usize>],
     from: &[usize],
     order: &[usize],
 ) -> Result<Vec<usize>, Refusal>
     requires closed { graphs.IsClosed (graph_of graph.now) }
-    requires inside { (i : ℕ) → graphs.IsIn i from.now → i < length graph.now }
+    requires inside { (i : ℕ) → graphs.IsNodeIn i from.now → i < length graph.now }
     requires ordered { graphs.IsOrder (graph_of graph.now) order.now }
     ensures kept { IfOk result (λ v. IsReachedOrder (graph_of graph.now) from.now v.items) }
     ensures memory { IfErr result (λ r. r ≡ memory) }
 {
-    let reached = reached(alloc, graph, from)?;
+    let reached = reach_all(alloc, graph, from)?;
     let mut kept = Vec::new(alloc);
     for number in order {
         if reached[*number] {
@@ -176,17 +180,17 @@ impl<'f, 't> Resolved<'f, 't> {
     /// it means.
     pub fn declarations(&self) -> &'f [Declaration<'t>]
         ensures declarations { result.now ≡ self.now.declarations.items }
-        ensures legal { IsLegal (entries_of self.now) }
+        ensures legal { IsLegalTree (entries_of self.now) }
     {
         self.file.declarations.as_slice()
     }
 
     /// The definitions of the text. A use of one means its body, closed.
     pub fn definitions(&self) -> &Definitions<'f, 't>
-        ensures all { all_of result.now ≡ defining.definitions (entries_of self.now) }
+        ensures all { nodes_kept result.now ≡ defining.definitions (entries_of self.now) }
         ensures uses { (i : ℕ) → let ds = defining.definitions (entries_of self.now) in i
-            < length ds → meaning.meaning ds i
-            ≡ meaning.meant_use ds (meaning.meaning ds) (slice_get ds i) }
+            < length ds → meaning.meaning_of_number ds i
+            ≡ meaning.meant_use ds (meaning.meaning_of_number ds) (slice_get ds i) }
     {
         &self.definitions
     }
@@ -203,7 +207,7 @@ impl<'f, 't> Resolved<'f, 't> {
     /// Whether the body of a definition is scalar, by its number.
     pub fn is_scalar(&self, number: usize) -> bool
         requires { number < length (defining.definitions (entries_of self.now)) }
-        ensures { result ≡ core.is_scalar (meaning.meaning
+        ensures { result ≡ core.is_scalar (meaning.meaning_of_number
             (defining.definitions (entries_of self.now)) number) }
     {
         self.measures[number].scalar
@@ -217,7 +221,7 @@ impl<'f, 't> Resolved<'f, 't> {
         ensures { (order : List ℕ) → let ds = defining.definitions
             (entries_of self.now) in IsReachedOrder (using.graph ds)
             (using.uses_of_fields ds (entries_of self.now)) order →
-            result ≡ min (times number (written_uses ds (entries_of self.now) order)) (2 ^ 64 - 1) }
+            result ≡ min (times_in_list number (written_uses ds (entries_of self.now) order)) (2 ^ 64 - 1) }
     {
         self.counts[number]
     }

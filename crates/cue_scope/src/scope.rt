@@ -1,7 +1,7 @@
 ghost use Rattle.std.specs.Prelude.{◌≡◌};
 ghost use Rattle.cue_scope.specs.Scopes.{scope_of, has_chained};
 
-use crate::words::{Labels, is_unquoted};
+use crate::words::{WordLabels, is_unquoted};
 use cue_syntax::Label;
 
 /// The struct literals that enclose a place in a text, from the innermost one outwards.
@@ -11,7 +11,7 @@ pub enum Scope<'a, 'f, 't> {
     Outermost,
     /// A struct literal, of which these are the unquoted labels.
     Literal {
-        labels: &'a Labels<'f, 't>,
+        labels: &'a WordLabels<'f, 't>,
         outer: &'a Scope<'a, 'f, 't>,
     },
     /// The structs of a chain of labels, each of which has one label.

@@ -17,7 +17,7 @@ const CLOSE: usize = 11;
 /// The unquoted labels of a struct literal. Of the words that have a meaning it is kept which stand
 /// among them; for any other word, which is a fault wherever it is looked up, they are searched.
 #[derive(Drop)]
-pub struct Labels<'f, 't> {
+pub struct WordLabels<'f, 't> {
     declarations: &'f [Declaration<'t>],
     /// By the numbers of the words.
     hidden: [bool; WORDS],
@@ -25,11 +25,11 @@ pub struct Labels<'f, 't> {
         → slice_index_or hidden at false ≡ has_label t (entries declarations.now) },
 }
 
-impl<'f, 't> Labels<'f, 't> {
+impl<'f, 't> WordLabels<'f, 't> {
     ghost use Rattle.cue_scope.specs.Hiding.{labels_in};
 
     /// Those of these declarations.
-    pub fn of(declarations: &'f [Declaration<'t>]) -> Labels<'f, 't>
+    pub fn of(declarations: &'f [Declaration<'t>]) -> WordLabels<'f, 't>
         ensures { labels_in result ≡ entries declarations.now }
     {
         let mut hidden = [false; WORDS];
@@ -40,7 +40,7 @@ impl<'f, 't> Labels<'f, 't> {
                 Declaration::Field { label, .. } => hide(&mut hidden, &label.name),
             }
         }
-        Labels {
+        WordLabels {
             declarations,
             hidden,
         }

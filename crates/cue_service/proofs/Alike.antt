@@ -6,7 +6,7 @@ use Rattle.cue_lattice.specs.World.{Piece, text, state, piece_refuses, pieces_re
 use Rattle.cue_lattice.proofs.OneOf.{one_of-append}
 use Rattle.cue_replica.specs.Accepted.{IsAcceptable}
 use Rattle.cue_replica.specs.Language.{language}
-use Rattle.cue_service.specs.Entries.{piece_of, entry_of, pieces_of, AreAlike, StandFor}
+use Rattle.cue_service.specs.Entries.{piece_of_entry, entry_of, pieces_of, AreEntriesAlike, StandFor}
 
 pub same_trans : (a b c : Refusals) → SameAnswers a b → SameAnswers b c → SameAnswers a c
 same_trans a b c first second path question =
@@ -21,7 +21,7 @@ same_refl a path question = (λ h. h, λ h. h)
 pub append_refuses : (xs ys : List Piece) → SameAnswers (pieces_refuse language (xs ++ ys)) (λ path question. pieces_refuse language xs path question ⊎ pieces_refuse language ys path question)
 append_refuses xs ys path question = one_of-append (λ (piece : Piece). piece_refuses language piece path question) xs ys
 
-pub alike_append : (a b c d : List Piece) → AreAlike a b → AreAlike c d → AreAlike (a ++ c) (b ++ d)
+pub alike_append : (a b c d : List Piece) → AreEntriesAlike a b → AreEntriesAlike c d → AreEntriesAlike (a ++ c) (b ++ d)
 alike_append a b c d first second path question =
     let f = first path question in
     let s = second path question in
@@ -45,9 +45,9 @@ all_back P (x ∷ xs) ys all = all_back P xs ys all.1
 
 pub pieces_append : (xs ys : List (List ℕ)) → pieces_of (xs ++ ys) ≡ pieces_of xs ++ pieces_of ys
 pieces_append [] ys = refl
-pieces_append (x ∷ xs) ys = ap (λ (l : List Piece). piece_of x ∷ l) (pieces_append xs ys)
+pieces_append (x ∷ xs) ys = ap (λ (l : List Piece). piece_of_entry x ∷ l) (pieces_append xs ys)
 
-pub read_back : (piece : Piece) → piece_of (entry_of piece) ≡ piece
+pub read_back : (piece : Piece) → piece_of_entry (entry_of piece) ≡ piece
 read_back (text bytes) = refl
 read_back (state bytes) = refl
 
@@ -57,11 +57,11 @@ stand_more entries pieces piece stand acceptable =
     let is : pieces_of (entries ++ entry_of piece ∷ []) ≡ pieces_of entries ++ piece ∷ [] = pieces_append entries (entry_of piece ∷ []) ∙ ap (λ (p : Piece). pieces_of entries ++ p ∷ []) (read_back piece) in
     record {
       acceptable = subst (AllByRecursion IsAcceptable) (sym is) (all_append IsAcceptable (pieces_of entries) (piece ∷ []) stand.acceptable (acceptable, tt));
-      alike = subst (λ (l : List Piece). AreAlike l (pieces ++ piece ∷ [])) (sym is) (alike_append (pieces_of entries) pieces (piece ∷ []) (piece ∷ []) stand.alike (same_refl (pieces_refuse language (piece ∷ []))));
+      alike = subst (λ (l : List Piece). AreEntriesAlike l (pieces ++ piece ∷ [])) (sym is) (alike_append (pieces_of entries) pieces (piece ∷ []) (piece ∷ []) stand.alike (same_refl (pieces_refuse language (piece ∷ []))));
     }
 
 -- entries that say no more than others that are alike
-within : (some more pieces : List Piece) → AreAlike some pieces → ((path : _) (question : _) → pieces_refuse language more path question → pieces_refuse language pieces path question) → AreAlike (more ++ some) pieces
+within : (some more pieces : List Piece) → AreEntriesAlike some pieces → ((path : _) (question : _) → pieces_refuse language more path question → pieces_refuse language pieces path question) → AreEntriesAlike (more ++ some) pieces
 within some more pieces alike less path question =
     let a = alike path question in
     let both = append_refuses more some path question in (
@@ -70,15 +70,15 @@ within some more pieces alike less path question =
     )
 
 module _ (spare growing : List (List ℕ)) (pieces : List Piece) (bytes : List ℕ) (all : StandFor (spare ++ growing) pieces)
-    (is_state : language.IsState bytes) (alike : AreAlike (state bytes ∷ []) pieces) where
+    (is_state : language.IsState bytes) (alike : AreEntriesAlike (state bytes ∷ []) pieces) where
   fronts : pieces_of (spare ++ growing) ≡ pieces_of spare ++ pieces_of growing
   fronts = pieces_append spare growing
 
   parts : AllByRecursion IsAcceptable (pieces_of spare ++ pieces_of growing)
   parts = subst (AllByRecursion IsAcceptable) fronts all.acceptable
 
-  together : AreAlike (pieces_of spare ++ pieces_of growing) pieces
-  together = subst (λ (l : List Piece). AreAlike l pieces) fronts all.alike
+  together : AreEntriesAlike (pieces_of spare ++ pieces_of growing) pieces
+  together = subst (λ (l : List Piece). AreEntriesAlike l pieces) fronts all.alike
 
   -- a snapshot of all, behind what the spare journal has
   pub snapshot_stands : StandFor (spare ++ (1 ∷ bytes) ∷ []) pieces
@@ -86,7 +86,7 @@ module _ (spare growing : List (List ℕ)) (pieces : List Piece) (bytes : List �
       let is = pieces_append spare ((1 ∷ bytes) ∷ []) in
       record {
         acceptable = subst (AllByRecursion IsAcceptable) (sym is) (all_append IsAcceptable (pieces_of spare) (state bytes ∷ []) (all_front IsAcceptable (pieces_of spare) (pieces_of growing) parts) (is_state, tt));
-        alike = subst (λ (l : List Piece). AreAlike l pieces) (sym is)
+        alike = subst (λ (l : List Piece). AreEntriesAlike l pieces) (sym is)
             (within (state bytes ∷ []) (pieces_of spare) pieces alike (λ path question h. (together path question).0 ((append_refuses (pieces_of spare) (pieces_of growing) path question).1 (inl h))));
       }
 
@@ -97,10 +97,10 @@ module _ (spare growing : List (List ℕ)) (pieces : List Piece) (bytes : List �
       record {
         acceptable = subst (AllByRecursion IsAcceptable) (sym is)
             (all_append IsAcceptable (pieces_of (spare ++ (1 ∷ bytes) ∷ [])) (pieces_of growing) snapshot_stands.acceptable (all_back IsAcceptable (pieces_of spare) (pieces_of growing) parts));
-        alike = subst (λ (l : List Piece). AreAlike l pieces) (sym is) said;
+        alike = subst (λ (l : List Piece). AreEntriesAlike l pieces) (sym is) said;
       }
     where
-      said : AreAlike (pieces_of (spare ++ (1 ∷ bytes) ∷ []) ++ pieces_of growing) pieces
+      said : AreEntriesAlike (pieces_of (spare ++ (1 ∷ bytes) ∷ []) ++ pieces_of growing) pieces
       said path question =
           let s = snapshot_stands.alike path question in
           let t = together path question in

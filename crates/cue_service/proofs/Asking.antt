@@ -9,11 +9,11 @@ use Rattle.http_header.specs.Token.{is_value_byte}
 use Rattle.bytes.specs.Filled.{Filled}
 use Rattle.http.specs.declared.request.Request.{Request}
 use Rattle.http_server.specs.declared.response.Response.{Response}
-use Rattle.cue_answer.specs.declared.question.Question.{Question}
+use Rattle.cue_answer.specs.declared.question.SiteQuestion.{SiteQuestion}
 use Rattle.cue_replica.specs.Language.{Table}
 use Rattle.cue_service.specs.Answering.{IsAsked}
 use Rattle.cue_pieces.specs.Cursors.{cursor_text, IsCursor}
-use Rattle.cue_pieces.specs.declared.cursor.Cursor.{Cursor}
+use Rattle.cue_pieces.specs.declared.cursor.PieceCursor.{PieceCursor}
 use Rattle.cue_pieces.proofs.Telling.{IsPlain, plain_text}
 
 abbrev key : List ℕ
@@ -39,19 +39,19 @@ no_query query text is asked = no (is ∙ asked)
     no e = cc
 
 -- what is read as no place is the text of none
-pub none_named : (r : Option Cursor) (query : Option (List ℕ)) (q x : List ℕ) → Some q ≡ query → q ≡ key ++ x
-    → ((cursor : Cursor) → cursor.run < 2 ^ 64 → cursor.count < 2 ^ 64 → x ≡ cursor_text cursor.run cursor.count → r ≡ Some cursor)
+pub none_named : (r : Option PieceCursor) (query : Option (List ℕ)) (q x : List ℕ) → Some q ≡ query → q ≡ key ++ x
+    → ((cursor : PieceCursor) → cursor.run < 2 ^ 64 → cursor.count < 2 ^ 64 → x ≡ cursor_text cursor.run cursor.count → r ≡ Some cursor)
     → IfNone r ((run count : ℕ) → run < 2 ^ 64 → count < 2 ^ 64 → ¬ (query ≡ Some (key ++ cursor_text run count)))
 none_named (Some cursor) query q x is begins written = tt
 none_named None query q x is begins written = λ run count small less asked.
     let rest : x ≡ cursor_text run count = same_rest x (cursor_text run count) (sym begins ∙ is_query query q (cursor_text run count) is asked) in
     no (record { run = run; count = count }) (written (record { run = run; count = count }) small less rest)
   where
-    no : (cursor : Cursor) → ◌≡◌ {A = Option Cursor} None (Some cursor) → ⊥
+    no : (cursor : PieceCursor) → ◌≡◌ {A = Option PieceCursor} None (Some cursor) → ⊥
     no cursor e = cc
 
 -- and what is read stands there
-pub is_named : (r : Option Cursor) (query : Option (List ℕ)) (q x : List ℕ) → Some q ≡ query → q ≡ key ++ x → IfSome r (λ cursor. IsCursor x cursor.run cursor.count)
+pub is_named : (r : Option PieceCursor) (query : Option (List ℕ)) (q x : List ℕ) → Some q ≡ query → q ≡ key ++ x → IfSome r (λ cursor. IsCursor x cursor.run cursor.count)
     → IfSome r (λ cursor. (text : List ℕ) × (query ≡ Some (key ++ text)) × IsCursor text cursor.run cursor.count)
 is_named (Some cursor) query q x is begins holds = (x, sym is ∙ ap (λ (l : List ℕ). Some l) begins, holds)
 is_named None query q x is begins holds = tt
@@ -72,7 +72,7 @@ cursor_may_stand run count small less =
     All-from_recursion (λ b. IsTrue (is_value_byte b)) (cursor_text run count) (all_stand (cursor_text run count) (plain_text run count small less))
 
 -- a response with more fields answers as before
-pub asked_still : (question : Question) (table : Table) (request : Request (List ℕ)) (before after : Response) → IsAsked question table request before
+pub asked_still : (question : SiteQuestion) (table : Table) (request : Request (List ℕ)) (before after : Response) → IsAsked question table request before
     → after.status ≡ before.status → after.body ≡ before.body → IsAsked question table request after
 asked_still question table request before after (inl known) status body = inl (status ∙ known.0, known.1)
 asked_still question table request before after (inr told) status body = inr (told.0, told.1, status ∙ told.2, ap (λ (b : Filled). b.items) body ∙ told.3)

@@ -2,9 +2,9 @@
 use Rattle.std.proofs.Common.{◌≡◌, ℕ, zero, suc, ◌+◌, ◌-◌, ◌≤◌, List, [], ◌∷◌, ◌++◌, length, drop, map, refl, sym, ap, ◌∙◌, arith, length-append, length-drop}
 use Rattle.std.proofs.lemmas.List.{map_push, drop-append-le, length-map}
 use Rattle.cue_lattice.specs.World.{Piece}
-use Rattle.cue_pieces.specs.Listed.{Listed, GivesUp, Keeps, behind_of}
+use Rattle.cue_pieces.specs.Listed.{Listed, GivesUp, KeepsPieces, behind_of}
 use Rattle.cue_pieces.specs.Lists.{blocks}
-use Rattle.cue_journal.specs.Blocks.{recovered}
+use Rattle.cue_journal.specs.Blocks.{recovered_pieces}
 use Rattle.cue_service.specs.Entries.{entry_of}
 use Rattle.cue_service.specs.Listing.{AreListed, with_entry}
 
@@ -73,7 +73,7 @@ dropped (suc n) [] = refl
 dropped (suc n) (piece ∷ pieces) = dropped n pieces
 
 -- what is told are the pieces behind the first so many
-pub behind_is : (pieces : Listed) (count : ℕ) (accepted : List Piece) → Keeps pieces pieces.run count → AreListed accepted pieces
+pub behind_is : (pieces : Listed) (count : ℕ) (accepted : List Piece) → KeepsPieces pieces pieces.run count → AreListed accepted pieces
     → (count ≤ length accepted) × (behind_of pieces count ≡ map entry_of (drop count accepted))
 behind_is pieces count accepted keeps listed =
     let entries = map entry_of accepted in
@@ -82,9 +82,9 @@ behind_is pieces count accepted keeps listed =
       ap (drop (count - pieces.given_up)) listed.kept ∙ drop_more (count - pieces.given_up) pieces.given_up entries ∙ ap (λ n. drop n entries) place ∙ dropped count accepted,
     )
 
-pub told : (pieces : Listed) (count : ℕ) (body : List ℕ) → Keeps pieces pieces.run count → body ≡ blocks (behind_of pieces count) → recovered body ≡ behind_of pieces count
+pub told : (pieces : Listed) (count : ℕ) (body : List ℕ) → KeepsPieces pieces pieces.run count → body ≡ blocks (behind_of pieces count) → recovered_pieces body ≡ behind_of pieces count
     → (accepted : List Piece) → AreListed accepted pieces → (count ≤ length accepted)
-    × (body ≡ blocks (map entry_of (drop count accepted))) × (recovered body ≡ map entry_of (drop count accepted))
+    × (body ≡ blocks (map entry_of (drop count accepted))) × (recovered_pieces body ≡ map entry_of (drop count accepted))
 told pieces count body keeps written read accepted listed =
     let is = behind_is pieces count accepted keeps listed in
     (is.0, written ∙ ap blocks is.1, read ∙ is.1)

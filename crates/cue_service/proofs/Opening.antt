@@ -3,14 +3,14 @@ use Rattle.std.proofs.Common.{◌≡◌, ℕ, List, [], ◌∷◌, ◌++◌, Res
 use Rattle.cue_lattice.specs.World.{Piece}
 use Rattle.cue_replica.specs.Accepted.{IsAcceptable, IsOfPieces}
 use Rattle.cue_replica.specs.Language.{Table, language}
-use Rattle.cue_replica.specs.Replica.{Adds}
+use Rattle.cue_replica.specs.Replica.{AddsRefusals}
 use Rattle.cue_replica.proofs.Adding.{one_piece, unified_more}
 use Rattle.cue_lattice.specs.World.{piece_refuses}
-use Rattle.cue_service.specs.Entries.{piece_of, pieces_of}
+use Rattle.cue_service.specs.Entries.{piece_of_entry, pieces_of}
 use Rattle.cue_service.proofs.Alike.{all_append, pieces_append}
 
 -- one piece more
-pub piece_added : {X E : Type 0} (r : Result X E) (old new : Table) (piece : Piece) → OnOk r (IsAcceptable piece) → OnOk r (Adds old (piece_refuses language piece) new) → OnOk r (language.IsValid new)
+pub piece_added : {X E : Type 0} (r : Result X E) (old new : Table) (piece : Piece) → OnOk r (IsAcceptable piece) → OnOk r (AddsRefusals old (piece_refuses language piece) new) → OnOk r (language.IsValid new)
     → OnOk r ((pieces : List Piece) → IsOfPieces old pieces → IsOfPieces new (pieces ++ piece ∷ []))
 piece_added (Ok x) old new piece acceptable adds valid = λ pieces of.
     (all_append IsAcceptable pieces (piece ∷ []) of.0 (acceptable, tt), unified_more old new _ pieces (piece ∷ []) of.1 adds valid (one_piece piece))
@@ -19,10 +19,10 @@ piece_added (Err e) old new piece acceptable adds valid = tt
 -- one entry more
 pub entry_added : (old mid new : Table) (entries : List (List ℕ)) (entry : List ℕ)
     → ((pieces : List Piece) → IsOfPieces old pieces → IsOfPieces mid (pieces ++ pieces_of entries))
-    → ((pieces : List Piece) → IsOfPieces mid pieces → IsOfPieces new (pieces ++ piece_of entry ∷ []))
+    → ((pieces : List Piece) → IsOfPieces mid pieces → IsOfPieces new (pieces ++ piece_of_entry entry ∷ []))
     → (pieces : List Piece) → IsOfPieces old pieces → IsOfPieces new (pieces ++ pieces_of (entries ++ entry ∷ []))
 entry_added old mid new entries entry so_far more pieces of =
-    subst (IsOfPieces new) (append_assoc pieces (pieces_of entries) (piece_of entry ∷ []) ∙ ap (λ (l : List Piece). pieces ++ l) (sym (pieces_append entries (entry ∷ []))))
+    subst (IsOfPieces new) (append_assoc pieces (pieces_of entries) (piece_of_entry entry ∷ []) ∙ ap (λ (l : List Piece). pieces ++ l) (sym (pieces_append entries (entry ∷ []))))
     (more (pieces ++ pieces_of entries) (so_far pieces of))
 
 -- what a call that did not fail ensures

@@ -4,42 +4,42 @@ use Rattle.std.specs.List.{Contains}
 use Rattle.std.proofs.lemmas.Result.{IfErr-weaker}
 use Rattle.cue_lattice.specs.OneOf.{OneOf}
 use Rattle.cue_lattice.specs.Refusal.{memory}
-use Rattle.cue_lattice.specs.World.{Piece, Has, IsUnified, piece_refuses, text, state}
+use Rattle.cue_lattice.specs.World.{Piece, IsInSet, IsUnified, piece_refuses, text, state}
 use Rattle.cue_lattice.specs.declared.refusal.Refusal.{Refusal}
 use Rattle.cue_lattice.proofs.OneOf.{one_of-push}
 use Rattle.cue_replica.specs.Accepted.{IsAcceptable}
 use Rattle.cue_replica.specs.Language.{Table, language}
-use Rattle.cue_replica.specs.Replica.{Adds}
+use Rattle.cue_replica.specs.Replica.{AddsRefusals}
 use Rattle.cue_replica.proofs.Adding.{one_piece, unified_more}
 use Rattle.cue_replica.proofs.Sound.{sound}
-use Rattle.cue_service.specs.declared.desk.Desk.{Desk}
+use Rattle.cue_service.specs.declared.desk.SiteCore.{SiteCore}
 use Rattle.cue_service.specs.Answering.{GathersPiece, GathersPieces}
-use Rattle.cue_service.specs.Entries.{entry_of, piece_of}
+use Rattle.cue_service.specs.Entries.{entry_of, piece_of_entry}
 use Rattle.cue_service.specs.Listing.{AreListed}
-use Rattle.cue_service.specs.Pulls.{Covers, CoversAll, IsOfListed, IsRefusalOf}
+use Rattle.cue_service.specs.Pulls.{CoversPiece, CoversAll, IsOfListed, IsRefusalOf}
 use Rattle.cue_service.proofs.Alike.{read_back}
 
 -- a table that adds something refuses what it refused, and what was added
-pub covers_still : (old new : Table) (added piece : Piece) → Adds old (piece_refuses language added) new → Covers old piece → Covers new piece
+pub covers_still : (old new : Table) (added piece : Piece) → AddsRefusals old (piece_refuses language added) new → CoversPiece old piece → CoversPiece new piece
 covers_still old new added piece adds covers path question refuses = (adds path question).1 (inl (covers path question refuses))
 
-pub covers_added : (old new : Table) (piece : Piece) → Adds old (piece_refuses language piece) new → Covers new piece
+pub covers_added : (old new : Table) (piece : Piece) → AddsRefusals old (piece_refuses language piece) new → CoversPiece new piece
 covers_added old new piece adds path question refuses = (adds path question).1 (inr refuses)
 
-one_of_has : (P : Piece → Type 0) (pieces : List Piece) (piece : Piece) → Has pieces piece → P piece → OneOf P pieces
+one_of_has : (P : Piece → Type 0) (pieces : List Piece) (piece : Piece) → IsInSet pieces piece → P piece → OneOf P pieces
 one_of_has P [] piece has holds = absurd has
 one_of_has P (x ∷ pieces) piece (inl is) holds = inl (subst P (sym is) holds)
 one_of_has P (x ∷ pieces) piece (inr has) holds = inr (one_of_has P pieces piece has holds)
 
 -- the unification of pieces refuses what each of them does
-pub covers_each : (table : Table) (pieces : List Piece) (piece : Piece) → IsUnified language table pieces → Has pieces piece → Covers table piece
+pub covers_each : (table : Table) (pieces : List Piece) (piece : Piece) → IsUnified language table pieces → IsInSet pieces piece → CoversPiece table piece
 covers_each table pieces piece unified has path question refuses =
     (unified.1 path question).1 (one_of_has (λ member. piece_refuses language member path question) pieces piece has refuses)
 
 -- an entry that is listed is that of a piece that was accepted
 pub entry_has :
     (n : ℕ) (accepted : List Piece) (k : ℕ) (entry : List ℕ) → k < length (drop n (map entry_of accepted)) → slice_index_or (drop n (map entry_of accepted)) k entry ≡ entry
-    → (piece : Piece) × Has accepted piece × (entry_of piece ≡ entry)
+    → (piece : Piece) × IsInSet accepted piece × (entry_of piece ≡ entry)
 entry_has zero [] k entry less is = absurd (omega (arith, less))
 entry_has (suc n) [] k entry less is = absurd (omega (arith, less))
 entry_has zero (piece ∷ accepted) zero entry less is = (piece, inl refl, is)
@@ -51,18 +51,18 @@ entry_has (suc n) (piece ∷ accepted) k entry less is =
     (found.0, inr found.1, found.2)
 
 -- so the table refuses what a piece does that is known
-pub covers_known : (desk : Desk) (entry : List ℕ) → IsOfListed desk → Contains desk.pieces.kept entry → Covers desk.board (piece_of entry)
+pub covers_known : (desk : SiteCore) (entry : List ℕ) → IsOfListed desk → Contains desk.pieces.kept entry → CoversPiece desk.board (piece_of_entry entry)
 covers_known desk entry of known =
     let kept = subst (λ (l : List (List ℕ)). Contains l entry) of.listed.kept known in
     let found = entry_has desk.pieces.given_up of.accepted kept.0 entry kept.1 kept.2 in
-    subst (Covers desk.board) (sym (read_back found.0) ∙ ap piece_of found.2)
+    subst (CoversPiece desk.board) (sym (read_back found.0) ∙ ap piece_of_entry found.2)
     (covers_each desk.board of.pieces found.0 of.held (of.among found.0 found.1))
 
-pushed : (xs : List Piece) (x piece : Piece) → Has (xs ++ x ∷ []) piece → Has xs piece ⊎ (x ≡ piece)
+pushed : (xs : List Piece) (x piece : Piece) → IsInSet (xs ++ x ∷ []) piece → IsInSet xs piece ⊎ (x ≡ piece)
 pushed xs x piece has = (one_of-push (λ member. member ≡ piece) xs x).0 has
 
 -- what is taken of a piece that comes
-pub listed_after : (old new : Desk) (piece : Piece) → GathersPiece piece old new → IsOfListed old → IsOfListed new
+pub listed_after : (old new : SiteCore) (piece : Piece) → GathersPiece piece old new → IsOfListed old → IsOfListed new
 listed_after old new piece (inl taken) of = record {
   pieces = of.pieces ++ piece ∷ [];
   accepted = of.accepted ++ piece ∷ [];
@@ -81,20 +81,20 @@ listed_after old new piece (inr same) of = record {
   listed = subst (AreListed of.accepted) (sym same.pieces) of.listed;
 }
 
-pub covers_after : (old new : Desk) (piece other : Piece) → GathersPiece piece old new → Covers old.board other → Covers new.board other
+pub covers_after : (old new : SiteCore) (piece other : Piece) → GathersPiece piece old new → CoversPiece old.board other → CoversPiece new.board other
 covers_after old new piece other (inl taken) covers = covers_still old.board new.board piece other taken.adds covers
-covers_after old new piece other (inr same) covers = subst (λ (t : Table). Covers t other) (sym same.table) covers
+covers_after old new piece other (inr same) covers = subst (λ (t : Table). CoversPiece t other) (sym same.table) covers
 
-pub listed_after_all : (pieces : List Piece) (old new : Desk) → GathersPieces pieces old new → IsOfListed old → IsOfListed new
+pub listed_after_all : (pieces : List Piece) (old new : SiteCore) → GathersPieces pieces old new → IsOfListed old → IsOfListed new
 listed_after_all [] old new same of = listed_after old new (text []) (inr same) of
 listed_after_all (piece ∷ pieces) old new gathers of = listed_after_all pieces gathers.0 new gathers.2 (listed_after old gathers.0 piece gathers.1 of)
 
 -- one piece more is covered
 pub covers_one_more :
-    (old new : Table) (pieces : List Piece) (piece : Piece) → ((other : Piece) → Covers old other → Covers new other) → CoversAll old pieces
-    → (IsAcceptable piece → Covers new piece) → CoversAll new (pieces ++ piece ∷ [])
+    (old new : Table) (pieces : List Piece) (piece : Piece) → ((other : Piece) → CoversPiece old other → CoversPiece new other) → CoversAll old pieces
+    → (IsAcceptable piece → CoversPiece new piece) → CoversAll new (pieces ++ piece ∷ [])
 covers_one_more old new pieces piece keeps all one other has acceptable =
-    ⊎_elim (λ before. keeps other (all other before acceptable)) (λ is. subst (λ (p : Piece). Covers new p) is (one (subst IsAcceptable (sym is) acceptable)))
+    ⊎_elim (λ before. keeps other (all other before acceptable)) (λ is. subst (λ (p : Piece). CoversPiece new p) is (one (subst IsAcceptable (sym is) acceptable)))
     (pushed pieces piece other has)
 
 pub covers_none : (table : Table) → CoversAll table []

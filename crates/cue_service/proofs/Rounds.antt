@@ -6,22 +6,22 @@ use Rattle.http.specs.declared.request.Request.{Request}
 use Rattle.http.specs.Request.{body_of}
 use Rattle.http_server.specs.declared.response.Response.{Response}
 use Rattle.http_server.specs.Exchange.{Call, Chain}
-use Rattle.cue_lattice.specs.World.{Piece, Has, text, state}
+use Rattle.cue_lattice.specs.World.{Piece, IsInSet, text, state}
 use Rattle.cue_journal.specs.Pairs.{is_whole}
-use Rattle.cue_journal.specs.declared.pair.Pair.{Pair}
+use Rattle.cue_journal.specs.declared.pair.JournalPair.{JournalPair}
 use Rattle.cue_service.specs.declared.site.Site.{Site}
-use Rattle.cue_service.specs.declared.desk.Desk.{Desk}
+use Rattle.cue_service.specs.declared.desk.SiteCore.{SiteCore}
 use Rattle.cue_service.specs.declared.route.Route.{Route}
 use Rattle.cue_service.specs.declared.route.Route.TheVariants.{Ask, Pieces, Take, Health, Metrics, Page, OtherMethod, Unknown}
-use Rattle.cue_service.specs.declared.route.Hand.{Hand}
-use Rattle.cue_service.specs.declared.route.Hand.TheVariants as hands
-use Rattle.cue_service.specs.Requests.{IsRoute, handed, piece_in}
-use Rattle.cue_service.specs.Answering.{Answers, AnswersAs, IsAsked, IsSame, IsTaken, IsKnown, IsSpared, IsUnanswered, GathersPieces, status_of}
-use Rattle.cue_service.specs.Listing.{AreListed, IsToldPieces}
+use Rattle.cue_service.specs.declared.route.PieceKind.{PieceKind}
+use Rattle.cue_service.specs.declared.route.PieceKind.TheVariants as hands
+use Rattle.cue_service.specs.Requests.{IsRoute, piece_of_bytes, piece_in}
+use Rattle.cue_service.specs.Answering.{AnswersRequest, AnswersAs, IsAsked, IsSame, IsPieceTaken, IsTagKnown, IsSpared, LeavesUnanswered, GathersPieces, status_of_refusal}
+use Rattle.cue_service.specs.Listing.{AreListed, AnswersWithPieces}
 use Rattle.cue_service.specs.Sites.{AnswersAt, IsConsistent, Settles, Leaves}
-use Rattle.cue_service.specs.Promise.{acknowledged_by, acknowledged, AreSomeOf}
-use Rattle.cue_answer.specs.declared.question.Question.{Question}
-use Rattle.cue_answer.specs.declared.question.Question.TheVariants as questions
+use Rattle.cue_service.specs.Promise.{acknowledged_by, acknowledged_pieces, AreSomeOf}
+use Rattle.cue_answer.specs.declared.question.SiteQuestion.{SiteQuestion}
+use Rattle.cue_answer.specs.declared.question.SiteQuestion.TheVariants as questions
 use Rattle.cue_answer.specs.declared.question.Status.{Status}
 use Rattle.cue_answer.specs.declared.question.Status.TheVariants as statuses
 use Rattle.cue_service.proofs.Alike.{read_back}
@@ -30,7 +30,7 @@ use Rattle.cue_service.proofs.Listing.{listed_less}
 use Rattle.cue_service.proofs.Pulls.{entry_has}
 use Rattle.cue_service.proofs.Sparing.{spared, unanswered}
 use Rattle.cue_pieces.specs.Listed.{Listed}
-use Rattle.cue_service.specs.Entries.{entry_of, piece_of}
+use Rattle.cue_service.specs.Entries.{entry_of, piece_of_entry}
 use Rattle.std.specs.List.{Contains}
 
 not_acknowledged : (request : Request (List ℕ)) (response : Response) → response.status ≢ 204 → acknowledged_by (request, response) ≡ []
@@ -39,12 +39,12 @@ not_acknowledged request response other = grind (arith, nat_tests)
 is_acknowledged : (request : Request (List ℕ)) (response : Response) → response.status ≡ 204 → acknowledged_by (request, response) ≡ piece_in request ∷ []
 is_acknowledged request response is = ap (λ n. if n == 204 then piece_in request ∷ [] else []) is
 
-handed_in : (hand : Hand) (request : Request (List ℕ)) → IsRoute (Take hand) request → piece_in request ≡ handed hand (body_of request)
+handed_in : (hand : PieceKind) (request : Request (List ℕ)) → IsRoute (Take hand) request → piece_in request ≡ piece_of_bytes hand (body_of request)
 handed_in hands.Text request route = ap (λ path. if bytes_eq path (codes "/state") then state (body_of request) else text (body_of request)) route.1
 handed_in hands.State request route = ap (λ path. if bytes_eq path (codes "/state") then state (body_of request) else text (body_of request)) route.1
 
 -- what is told has another status
-told_status : (question : Question) (status : Status) → status_of question status ≢ 204
+told_status : (question : SiteQuestion) (status : Status) → status_of_refusal question status ≢ 204
 told_status questions.Export statuses.Done = omega arith
 told_status questions.Export statuses.Conflicts = omega arith
 told_status questions.Export statuses.Incomplete = omega arith
@@ -53,32 +53,32 @@ told_status questions.Report status = omega arith
 told_status questions.State status = omega arith
 
 -- a call takes in the piece that it acknowledges, or it is known, or the call changes nothing
-abbrev pub Moves : Desk → Request (List ℕ) → Response → Desk → Type 0
+abbrev pub Moves : SiteCore → Request (List ℕ) → Response → SiteCore → Type 0
 Moves old request response new =
-    ((piece : Piece) × IsTaken piece old new × (acknowledged_by (request, response) ≡ piece ∷ []))
-    ⊎ (((piece : Piece) × IsKnown piece old new × (acknowledged_by (request, response) ≡ piece ∷ []))
+    ((piece : Piece) × IsPieceTaken piece old new × (acknowledged_by (request, response) ≡ piece ∷ []))
+    ⊎ (((piece : Piece) × IsTagKnown piece old new × (acknowledged_by (request, response) ≡ piece ∷ []))
     ⊎ (IsSpared old new × (acknowledged_by (request, response) ≡ [])))
 
-nothing : (old new : Desk) (request : Request (List ℕ)) (response : Response) (code : ℕ) → IsSame old new → response.status ≡ code → code ≢ 204 → Moves old request response new
+nothing : (old new : SiteCore) (request : Request (List ℕ)) (response : Response) (code : ℕ) → IsSame old new → response.status ≡ code → code ≢ 204 → Moves old request response new
 nothing old new request response code same is other = inr (inr (spared old new same, not_acknowledged request response (λ e. other (sym is ∙ e))))
 
-handed_to : (hand : Hand) (old new : Desk) (request : Request (List ℕ)) (response : Response) → IsRoute (Take hand) request → response.status ≡ 204
-    → IsTaken (handed hand (body_of request)) old new ⊎ IsKnown (handed hand (body_of request)) old new → Moves old request response new
+handed_to : (hand : PieceKind) (old new : SiteCore) (request : Request (List ℕ)) (response : Response) → IsRoute (Take hand) request → response.status ≡ 204
+    → IsPieceTaken (piece_of_bytes hand (body_of request)) old new ⊎ IsTagKnown (piece_of_bytes hand (body_of request)) old new → Moves old request response new
 handed_to hand old new request response is done (inl taken) =
-    inl (handed hand (body_of request), taken, is_acknowledged request response done ∙ ap (λ (p : Piece). p ∷ []) (handed_in hand request is))
+    inl (piece_of_bytes hand (body_of request), taken, is_acknowledged request response done ∙ ap (λ (p : Piece). p ∷ []) (handed_in hand request is))
 handed_to hand old new request response is done (inr known) =
-    inr (inl (handed hand (body_of request), known, is_acknowledged request response done ∙ ap (λ (p : Piece). p ∷ []) (handed_in hand request is)))
+    inr (inl (piece_of_bytes hand (body_of request), known, is_acknowledged request response done ∙ ap (λ (p : Piece). p ∷ []) (handed_in hand request is)))
 
-asked : (question : Question) (old new : Desk) (request : Request (List ℕ)) (response : Response) → IsSame old new → IsAsked question old.board request response → Moves old request response new
+asked : (question : SiteQuestion) (old new : SiteCore) (request : Request (List ℕ)) (response : Response) → IsSame old new → IsAsked question old.board request response → Moves old request response new
 asked question old new request response same (inl known) = nothing old new request response 304 same known.0 (omega arith)
 asked question old new request response same (inr told) = nothing old new request response _ same told.2 (told_status question told.0.status)
 
-told_pieces : (old new : Desk) (request : Request (List ℕ)) (response : Response) → IsSame old new → IsToldPieces old.pieces request response → Moves old request response new
+told_pieces : (old new : SiteCore) (request : Request (List ℕ)) (response : Response) → IsSame old new → AnswersWithPieces old.pieces request response → Moves old request response new
 told_pieces old new request response same (inl told) = nothing old new request response 200 same told.status (omega arith)
 told_pieces old new request response same (inr (inl gone)) = nothing old new request response 410 same gone.status (omega arith)
 told_pieces old new request response same (inr (inr none)) = nothing old new request response 400 same none.status (omega arith)
 
-moves : (route : Route) (old new : Desk) (request : Request (List ℕ)) (response : Response) → IsRoute route request → AnswersAs route old request response new → Moves old request response new
+moves : (route : Route) (old new : SiteCore) (request : Request (List ℕ)) (response : Response) → IsRoute route request → AnswersAs route old request response new → Moves old request response new
 moves (Ask question) old new request response is a = asked question old new request response a.0 a.1
 moves Pieces old new request response is a = told_pieces old new request response a.0 a.1
 moves (Take hand) old new request response is (inl done) = handed_to hand old new request response is done.1 done.0
@@ -89,27 +89,27 @@ moves Page old new request response is a = nothing old new request response 200 
 moves OtherMethod old new request response is a = nothing old new request response 405 a.0 a.1 (omega arith)
 moves Unknown old new request response is a = nothing old new request response 404 a.0 a.1 (omega arith)
 
-moved_unanswered : (route : Route) (old new : Desk) (request : Request (List ℕ)) (response : Response) (code : ℕ) → IsUnanswered route old new → response.status ≡ code → code ≢ 204
+moved_unanswered : (route : Route) (old new : SiteCore) (request : Request (List ℕ)) (response : Response) (code : ℕ) → LeavesUnanswered route old new → response.status ≡ code → code ≢ 204
     → Moves old request response new
 moved_unanswered route old new request response code same is other = inr (inr (unanswered route old new same, not_acknowledged request response (λ e. other (sym is ∙ e))))
 
-pub moved : (old new : Desk) (request : Request (List ℕ)) (response : Response) → Answers old request response new → Moves old request response new
+pub moved : (old new : SiteCore) (request : Request (List ℕ)) (response : Response) → AnswersRequest old request response new → Moves old request response new
 moved old new request response answers = by answers.2
   where
-    by : AnswersAs answers.0 old request response new ⊎ (IsUnanswered answers.0 old new × (response.status ≡ 507)) → Moves old request response new
+    by : AnswersAs answers.0 old request response new ⊎ (LeavesUnanswered answers.0 old new × (response.status ≡ 507)) → Moves old request response new
     by (inl told) = moves answers.0 old new request response answers.1 told
     by (inr wanting) = moved_unanswered answers.0 old new request response 507 wanting.0 wanting.1 (omega arith)
 
-has_left : (xs ys : List Piece) (piece : Piece) → Has xs piece → Has (xs ++ ys) piece
+has_left : (xs ys : List Piece) (piece : Piece) → IsInSet xs piece → IsInSet (xs ++ ys) piece
 has_left [] ys piece has = absurd has
 has_left (x ∷ xs) ys piece (inl is) = inl is
 has_left (x ∷ xs) ys piece (inr has) = inr (has_left xs ys piece has)
 
-has_right : (xs ys : List Piece) (piece : Piece) → Has ys piece → Has (xs ++ ys) piece
+has_right : (xs ys : List Piece) (piece : Piece) → IsInSet ys piece → IsInSet (xs ++ ys) piece
 has_right [] ys piece has = has
 has_right (x ∷ xs) ys piece has = inr (has_right xs ys piece has)
 
-has_split : (xs ys : List Piece) (piece : Piece) → Has (xs ++ ys) piece → Has xs piece ⊎ Has ys piece
+has_split : (xs ys : List Piece) (piece : Piece) → IsInSet (xs ++ ys) piece → IsInSet xs piece ⊎ IsInSet ys piece
 has_split [] ys piece has = inr has
 has_split (x ∷ xs) ys piece (inl is) = inl (inl is)
 has_split (x ∷ xs) ys piece (inr has) = ⊎_elim (λ first. inl (inr first)) (λ second. inr second) (has_split xs ys piece has)
@@ -122,32 +122,32 @@ some_append some others (piece ∷ pieces) more (inr rest) second = inr (some_ap
 -- what is listed of pieces that were acknowledged
 abbrev pub IsListedOf : List Piece → List Piece → Listed → Type 0
 IsListedOf accepted acked listed =
-    (more : List Piece) × AreSomeOf more acked × ((piece : Piece) → Has acked piece → Has (accepted ++ more) piece) × AreListed (accepted ++ more) listed
+    (more : List Piece) × AreSomeOf more acked × ((piece : Piece) → IsInSet acked piece → IsInSet (accepted ++ more) piece) × AreListed (accepted ++ more) listed
 
 -- a piece that is kept was accepted
-known_has : (accepted : List Piece) (listed : Listed) (piece : Piece) → AreListed accepted listed → Contains listed.kept (entry_of piece) → Has accepted piece
+known_has : (accepted : List Piece) (listed : Listed) (piece : Piece) → AreListed accepted listed → Contains listed.kept (entry_of piece) → IsInSet accepted piece
 known_has accepted listed piece are known =
     let kept = subst (λ (l : List (List ℕ)). Contains l (entry_of piece)) are.kept known in
     let found = entry_has listed.given_up accepted kept.0 (entry_of piece) kept.1 kept.2 in
-    subst (Has accepted) (sym (read_back found.0) ∙ ap piece_of found.2 ∙ read_back piece) found.1
+    subst (IsInSet accepted) (sym (read_back found.0) ∙ ap piece_of_entry found.2 ∙ read_back piece) found.1
 
 listed_taken : (accepted : List Piece) (piece : Piece) (listed : Listed) → AreListed (accepted ++ piece ∷ []) listed → IsListedOf accepted (piece ∷ []) listed
 listed_taken accepted piece listed are = (piece ∷ [], inl ([], refl, refl), λ one has. has_right accepted (piece ∷ []) one has, are)
 
-has_kept : (accepted : List Piece) (piece : Piece) → Has accepted piece → (one : Piece) → Has (piece ∷ []) one → Has (accepted ++ []) one
-has_kept accepted piece has one (inl is) = has_left accepted [] one (subst (Has accepted) is has)
+has_kept : (accepted : List Piece) (piece : Piece) → IsInSet accepted piece → (one : Piece) → IsInSet (piece ∷ []) one → IsInSet (accepted ++ []) one
+has_kept accepted piece has one (inl is) = has_left accepted [] one (subst (IsInSet accepted) is has)
 has_kept accepted piece has one (inr never) = absurd never
 
 listed_as_before : (accepted : List Piece) (listed : Listed) → AreListed accepted listed → AreListed (accepted ++ []) listed
 listed_as_before accepted listed are = subst (λ (l : List Piece). AreListed l listed) (sym (append-nil accepted)) are
 
-listed_known : (accepted : List Piece) (piece : Piece) (listed : Listed) → Has accepted piece → AreListed accepted listed → IsListedOf accepted (piece ∷ []) listed
+listed_known : (accepted : List Piece) (piece : Piece) (listed : Listed) → IsInSet accepted piece → AreListed accepted listed → IsListedOf accepted (piece ∷ []) listed
 listed_known accepted piece listed has are = ([], inr refl, λ one found. has_kept accepted piece has one found, listed_as_before accepted listed are)
 
 listed_none : (accepted : List Piece) (listed : Listed) → AreListed accepted listed → IsListedOf accepted [] listed
 listed_none accepted listed are = ([], refl, λ one has. absurd has, listed_as_before accepted listed are)
 
-one_listed : (old new : Desk) (request : Request (List ℕ)) (response : Response) (accepted : List Piece) → Answers old request response new
+one_listed : (old new : SiteCore) (request : Request (List ℕ)) (response : Response) (accepted : List Piece) → AnswersRequest old request response new
     → AreListed accepted old.pieces → IsListedOf accepted (acknowledged_by (request, response)) new.pieces
 one_listed old new request response accepted answers before = by (moved old new request response answers)
   where
@@ -160,7 +160,7 @@ one_listed old new request response accepted answers before = by (moved old new 
     by (inr (inr same)) = subst P (sym same.1) (listed_none accepted new.pieces (listed_less old.pieces new.pieces same.0.pieces accepted before))
 
 pub listed_still : {D : Type 0} (old called : Site D) (calls : List Call) (accepted : List Piece) → AreListed accepted old.desk.pieces → Chain AnswersAt old calls called
-    → IsListedOf accepted (acknowledged calls) called.desk.pieces
+    → IsListedOf accepted (acknowledged_pieces calls) called.desk.pieces
 listed_still {D} old called [] accepted before same = (
   [],
   refl,
@@ -172,9 +172,9 @@ listed_still old called (call ∷ calls) accepted before chain =
     let rest = listed_still chain.0 called calls (accepted ++ here.0) here.3 chain.2 in
     let joined : (accepted ++ here.0) ++ rest.0 ≡ accepted ++ (here.0 ++ rest.0) = append_assoc accepted here.0 rest.0 in (
       here.0 ++ rest.0,
-      some_append here.0 rest.0 (acknowledged_by call) (acknowledged calls) here.1 rest.1,
-      λ other has. subst (λ (l : List Piece). Has l other) joined
-          (⊎_elim (λ first. has_left (accepted ++ here.0) rest.0 other (here.2 other first)) (λ second. rest.2 other second) (has_split (acknowledged_by call) (acknowledged calls) other has)),
+      some_append here.0 rest.0 (acknowledged_by call) (acknowledged_pieces calls) here.1 rest.1,
+      λ other has. subst (λ (l : List Piece). IsInSet l other) joined
+          (⊎_elim (λ first. has_left (accepted ++ here.0) rest.0 other (here.2 other first)) (λ second. rest.2 other second) (has_split (acknowledged_by call) (acknowledged_pieces calls) other has)),
       subst (λ (l : List Piece). AreListed l called.desk.pieces) joined rest.3,
     )
 
@@ -192,11 +192,11 @@ module _ {D : Type 0} (seen : D → List ℕ) (may_leave : D → List ℕ → Ty
       by (inr (inr same)) = subst P (sym same.1) (subst (IsConsistent seen may_leave new on_disk) (sym (append-nil pieces)) (still_consistent seen may_leave old new on_disk pieces same.0.table same.0.waits call.files before))
 
   pub held : (old called : Site D) (calls : List Call) (on_disk pieces : List Piece) → IsConsistent seen may_leave old on_disk pieces → Chain AnswersAt old calls called
-      → IsConsistent seen may_leave called on_disk (pieces ++ acknowledged calls)
+      → IsConsistent seen may_leave called on_disk (pieces ++ acknowledged_pieces calls)
   held old called [] on_disk pieces before same =
       subst (λ (s : Site D). IsConsistent seen may_leave s on_disk (pieces ++ [])) (sym same) (subst (IsConsistent seen may_leave old on_disk) (sym (append-nil pieces)) before)
   held old called (call ∷ calls) on_disk pieces before chain =
-      subst (IsConsistent seen may_leave called on_disk) (append_assoc pieces (acknowledged_by call) (acknowledged calls))
+      subst (IsConsistent seen may_leave called on_disk) (append_assoc pieces (acknowledged_by call) (acknowledged_pieces calls))
       (held chain.0 called calls on_disk (pieces ++ acknowledged_by call) (one_call old chain.0 call.0 call.1 on_disk pieces chain.1 before) chain.2)
 
   -- what is taken of pieces that come
@@ -227,11 +227,11 @@ module _ {D : Type 0} (seen : D → List ℕ) (may_leave : D → List ℕ → Ty
       ]
 
   pub stands : (old called new : Site D) (calls : List Call) (on_disk pieces : List Piece) → IsConsistent seen may_leave old on_disk pieces → Chain AnswersAt old calls called
-      → Settles seen may_leave called true new → IsConsistent seen may_leave new (pieces ++ acknowledged calls) (pieces ++ acknowledged calls)
+      → Settles seen may_leave called true new → IsConsistent seen may_leave new (pieces ++ acknowledged_pieces calls) (pieces ++ acknowledged_pieces calls)
   stands old called new calls on_disk pieces before chain settles = settles.consistent on_disk _ refl (held old called calls on_disk pieces before chain)
 
   pub survives : (old called new : Site D) (calls : List Call) (verdict : Bool) (on_disk pieces : List Piece) → IsConsistent seen may_leave old on_disk pieces
-      → Chain AnswersAt old calls called → Settles seen may_leave called verdict new → Leaves seen may_leave new on_disk (pieces ++ acknowledged calls)
+      → Chain AnswersAt old calls called → Settles seen may_leave called verdict new → Leaves seen may_leave new on_disk (pieces ++ acknowledged_pieces calls)
   survives old called new calls verdict on_disk pieces before chain settles = settles.crash on_disk _ (held old called calls on_disk pieces before chain)
 
   files_kept : (old called : Site D) (calls : List Call) → Chain AnswersAt old calls called → called.files ≡ old.files
@@ -242,7 +242,7 @@ module _ {D : Type 0} (seen : D → List ℕ) (may_leave : D → List ℕ → Ty
       → Settles seen may_leave called verdict new → verdict ≡ false
   once before after called new calls false failed chain settles = refl
   once before after called new calls true failed chain settles =
-      absurd (not_both_ways (is_whole after.files) (failed.broken_after refl) (ap (λ (f : Pair D). is_whole f) (sym (files_kept after called calls chain)) ∙ settles.whole_before refl))
+      absurd (not_both_ways (is_whole after.files) (failed.broken_after refl) (ap (λ (f : JournalPair D). is_whole f) (sym (files_kept after called calls chain)) ∙ settles.whole_before refl))
     where
       not_both_ways : (b : Bool) → b ≡ false → b ≡ true → ⊥
       not_both_ways b broken whole = cc

@@ -1,21 +1,21 @@
 -- The pieces that a site accepted since its start, and what it answers to those who ask for them.
 use Rattle.std.specs.Prelude.{◌≡◌, ◌⊎◌, ◌<◌, ◌≤◌, ◌^◌, ℕ, List, [], ◌∷◌, ◌++◌, length, drop, map, codes}
 use Rattle.cue_lattice.specs.World.{Piece}
-use Rattle.cue_answer.specs.declared.question.Question.{Question}
-use Rattle.cue_answer.specs.declared.question.Question.TheVariants as questions
+use Rattle.cue_answer.specs.declared.question.SiteQuestion.{SiteQuestion}
+use Rattle.cue_answer.specs.declared.question.SiteQuestion.TheVariants as questions
 use Rattle.http.specs.declared.request.Request.{Request}
 use Rattle.http_server.specs.declared.response.Response.{Response}
 use Rattle.http_server.specs.Response.{fields_of}
-use Rattle.cue_journal.specs.Blocks.{recovered}
+use Rattle.cue_journal.specs.Blocks.{recovered_pieces}
 use Rattle.cue_pieces.specs.Cursors.{cursor_text, IsCursor}
-use Rattle.cue_pieces.specs.Listed.{Listed, IsListOf, Keeps, next_of}
+use Rattle.cue_pieces.specs.Listed.{Listed, IsListOfPieces, KeepsPieces, next_of}
 use Rattle.cue_pieces.specs.Lists.{blocks}
 use Rattle.cue_service.specs.Entries.{entry_of}
 use Rattle.cue_service.specs.Requests.{AsksBehind}
 
 -- the pieces that were accepted since the start are just these, of which the kept ones are a suffix
 abbrev pub AreListed : List Piece → Listed → Type 0
-AreListed pieces listed = IsListOf (map entry_of pieces) listed
+AreListed pieces listed = IsListOfPieces (map entry_of pieces) listed
 
 -- one more
 abbrev pub with_entry : Listed → List ℕ → Listed
@@ -29,22 +29,22 @@ NamesNext pieces response =
     × (fields_of response ≡ before ++ (codes "cuestore-pieces", cursor_text pieces.run (next_of pieces)) ∷ [])
 
 -- so does the one with the state
-abbrev pub IsNamed : Question → Listed → Response → Type 0
-IsNamed questions.State pieces response = NamesNext pieces response
-IsNamed question pieces response = Unit {0}
+abbrev pub IsNamedPlace : SiteQuestion → Listed → Response → Type 0
+IsNamedPlace questions.State pieces response = NamesNext pieces response
+IsNamedPlace question pieces response = Unit {0}
 
 -- The answer is the blocks of all pieces behind the first so many, in order, all of which are kept; and
 -- these are what is read of it.
-pub record IsTold (pieces : Listed) (request : Request (List ℕ)) (response : Response) : Type 0 where
+pub record AnswersPieces (pieces : Listed) (request : Request (List ℕ)) (response : Response) : Type 0 where
   pub text : List ℕ
   pub count : ℕ
   pub asks : AsksBehind text request
   pub cursor : IsCursor text pieces.run count
-  pub kept : Keeps pieces pieces.run count
+  pub kept : KeepsPieces pieces pieces.run count
   pub status : response.status ≡ 200
   pub told : (accepted : List Piece) → AreListed accepted pieces → (count ≤ length accepted)
       × (response.body.items ≡ blocks (map entry_of (drop count accepted)))
-      × (recovered response.body.items ≡ map entry_of (drop count accepted))
+      × (recovered_pieces response.body.items ≡ map entry_of (drop count accepted))
   pub names : NamesNext pieces response
 
 -- not all of those behind the place are kept, or it is of another run
@@ -54,7 +54,7 @@ pub record IsGone (pieces : Listed) (request : Request (List ℕ)) (response : R
   pub count : ℕ
   pub asks : AsksBehind text request
   pub cursor : IsCursor text run count
-  pub not_kept : ¬ Keeps pieces run count
+  pub not_kept : ¬ KeepsPieces pieces run count
   pub status : response.status ≡ 410
 
 -- the request names no place that a site ever names
@@ -62,6 +62,6 @@ pub record IsNoCursor (request : Request (List ℕ)) (response : Response) : Typ
   pub none : (run count : ℕ) → run < 2 ^ 64 → count < 2 ^ 64 → ¬ AsksBehind (cursor_text run count) request
   pub status : response.status ≡ 400
 
-abbrev pub IsToldPieces : Listed → Request (List ℕ) → Response → Type 0
-IsToldPieces pieces request response =
-    IsTold pieces request response ⊎ (IsGone pieces request response ⊎ IsNoCursor request response)
+abbrev pub AnswersWithPieces : Listed → Request (List ℕ) → Response → Type 0
+AnswersWithPieces pieces request response =
+    AnswersPieces pieces request response ⊎ (IsGone pieces request response ⊎ IsNoCursor request response)

@@ -1,6 +1,6 @@
 -- What a site promises of each round of calls.
 use Rattle.std.specs.Prelude.{◌==◌, ◌≡◌, ◌⊎◌, ℕ, Bool, true, List, [], ◌∷◌, ◌++◌, if◌then◌else◌}
-use Rattle.cue_lattice.specs.World.{Piece, Has}
+use Rattle.cue_lattice.specs.World.{Piece, IsInSet}
 use Rattle.http_server.specs.Exchange.{Call, Chain}
 use Rattle.cue_service.specs.declared.site.Site.{Site}
 use Rattle.cue_service.specs.Listing.{AreListed}
@@ -18,9 +18,9 @@ AreSomeOf some (piece ∷ pieces) =
     ((others : List Piece) × (some ≡ piece ∷ others) × AreSomeOf others pieces) ⊎ AreSomeOf some pieces
 
 -- the pieces that calls acknowledged, in order
-abbrev pub acknowledged : List Call → List Piece
-acknowledged [] = []
-acknowledged (call ∷ calls) = acknowledged_by call ++ acknowledged calls
+abbrev pub acknowledged_pieces : List Call → List Piece
+acknowledged_pieces [] = []
+acknowledged_pieces (call ∷ calls) = acknowledged_by call ++ acknowledged_pieces calls
 
 module _ {D : Type 0} (seen : D → List ℕ) (may_leave : D → List ℕ → Type 0) where
   -- after any calls the site has accepted just the pieces from before and those acknowledged
@@ -28,7 +28,7 @@ module _ {D : Type 0} (seen : D → List ℕ) (may_leave : D → List ℕ → Ty
   AreHeld =
       (old called : Site D) (calls : List Call) (on_disk pieces : List Piece)
       → IsConsistent seen may_leave old on_disk pieces → Chain AnswersAt old calls called
-      → IsConsistent seen may_leave called on_disk (pieces ++ acknowledged calls)
+      → IsConsistent seen may_leave called on_disk (pieces ++ acknowledged_pieces calls)
 
   -- It lists what it did, and behind that some of those acknowledged, in their order. Each that was
   -- acknowledged is listed.
@@ -36,8 +36,8 @@ module _ {D : Type 0} (seen : D → List ℕ) (may_leave : D → List ℕ → Ty
   AreListedStill =
       (old called : Site D) (calls : List Call) (accepted : List Piece)
       → AreListed accepted old.desk.pieces → Chain AnswersAt old calls called
-      → (more : List Piece) × AreSomeOf more (acknowledged calls)
-      × ((piece : Piece) → Has (acknowledged calls) piece → Has (accepted ++ more) piece)
+      → (more : List Piece) × AreSomeOf more (acknowledged_pieces calls)
+      × ((piece : Piece) → IsInSet (acknowledged_pieces calls) piece → IsInSet (accepted ++ more) piece)
       × AreListed (accepted ++ more) called.desk.pieces
 
   -- so it has, with some of the pieces of another site that come
@@ -56,7 +56,7 @@ module _ {D : Type 0} (seen : D → List ℕ) (may_leave : D → List ℕ → Ty
       (old called new : Site D) (calls : List Call) (on_disk pieces : List Piece)
       → IsConsistent seen may_leave old on_disk pieces → Chain AnswersAt old calls called
       → Settles seen may_leave called true new
-      → IsConsistent seen may_leave new (pieces ++ acknowledged calls) (pieces ++ acknowledged calls)
+      → IsConsistent seen may_leave new (pieces ++ acknowledged_pieces calls) (pieces ++ acknowledged_pieces calls)
 
   -- a crash leaves what was on the disk before, or all
   abbrev pub Survives : Type 0
@@ -64,4 +64,4 @@ module _ {D : Type 0} (seen : D → List ℕ) (may_leave : D → List ℕ → Ty
       (old called new : Site D) (calls : List Call) (verdict : Bool) (on_disk pieces : List Piece)
       → IsConsistent seen may_leave old on_disk pieces → Chain AnswersAt old calls called
       → Settles seen may_leave called verdict new
-      → Leaves seen may_leave new on_disk (pieces ++ acknowledged calls)
+      → Leaves seen may_leave new on_disk (pieces ++ acknowledged_pieces calls)

@@ -3,7 +3,7 @@ use Rattle.std.specs.Prelude.{◌≡◌, ◌≢◌, ◌⊎◌, ◌++◌, ℕ, Li
 use Rattle.std.specs.List.{AllByRecursion}
 use Rattle.std.specs.Str.{bytes_eq}
 use Rattle.cue_lattice.specs.World.{Piece, text, state}
-use Rattle.cue_answer.specs.declared.question.Question.TheVariants as questions
+use Rattle.cue_answer.specs.declared.question.SiteQuestion.TheVariants as questions
 use Rattle.http.specs.declared.request.Request.{Request}
 use Rattle.http.specs.Request.{head_of, body_of}
 use Rattle.http_header.specs.FieldValue.{FieldValue}
@@ -11,15 +11,15 @@ use Rattle.http_header.specs.HeaderMap.{get}
 use Rattle.http_uri.specs.Uri.{uri_path, uri_query}
 use Rattle.cue_service.specs.declared.route.Route.{Route}
 use Rattle.cue_service.specs.declared.route.Route.TheVariants.{Ask, Pieces, Take, Health, Metrics, Page, OtherMethod, Unknown}
-use Rattle.cue_service.specs.declared.route.Hand.{Hand}
-use Rattle.cue_service.specs.declared.route.Hand.TheVariants as hands
+use Rattle.cue_service.specs.declared.route.PieceKind.{PieceKind}
+use Rattle.cue_service.specs.declared.route.PieceKind.TheVariants as hands
 
 abbrev pub path_of : Request (List ℕ) → List ℕ
 path_of request = uri_path (head_of request).uri
 
 -- the request reads
-abbrev pub IsReading : Request (List ℕ) → Type 0
-IsReading request =
+abbrev pub IsReadRequest : Request (List ℕ) → Type 0
+IsReadRequest request =
     ((head_of request).method ≡ codes "GET") ⊎ ((head_of request).method ≡ codes "HEAD")
 
 -- it hands something in
@@ -27,12 +27,12 @@ abbrev pub IsWriting : Request (List ℕ) → Type 0
 IsWriting request = (head_of request).method ≡ codes "POST"
 
 -- it asks for what is at a path
-abbrev pub Reads : List ℕ → Request (List ℕ) → Type 0
-Reads path request = IsReading request × (path_of request ≡ path)
+abbrev pub AsksForPath : List ℕ → Request (List ℕ) → Type 0
+AsksForPath path request = IsReadRequest request × (path_of request ≡ path)
 
 -- it hands something to a path
-abbrev pub Writes : List ℕ → Request (List ℕ) → Type 0
-Writes path request = IsWriting request × (path_of request ≡ path)
+abbrev pub HandsToPath : List ℕ → Request (List ℕ) → Type 0
+HandsToPath path request = IsWriting request × (path_of request ≡ path)
 
 -- the paths that can be read
 abbrev pub read_paths : List (List ℕ)
@@ -51,25 +51,25 @@ IsNoneOf paths path = AllByRecursion (λ other. path ≢ other) paths
 -- What a request asks for. It asks for nothing by another method, and neither where nothing can
 -- be read at its path, or handed to it.
 abbrev pub IsRoute : Route → Request (List ℕ) → Type 0
-IsRoute (Ask questions.Export) request = Reads (codes "/export") request
-IsRoute (Ask questions.Print) request = Reads (codes "/print") request
-IsRoute (Ask questions.Report) request = Reads (codes "/report") request
-IsRoute (Ask questions.State) request = Reads (codes "/state") request
-IsRoute Pieces request = Reads (codes "/pieces") request
-IsRoute (Take hands.Text) request = Writes (codes "/fragments") request
-IsRoute (Take hands.State) request = Writes (codes "/state") request
-IsRoute Health request = Reads (codes "/healthz") request
-IsRoute Metrics request = Reads (codes "/metrics") request
-IsRoute Page request = Reads (codes "/") request
-IsRoute OtherMethod request = (¬ IsReading request) × (¬ IsWriting request)
+IsRoute (Ask questions.Export) request = AsksForPath (codes "/export") request
+IsRoute (Ask questions.Print) request = AsksForPath (codes "/print") request
+IsRoute (Ask questions.Report) request = AsksForPath (codes "/report") request
+IsRoute (Ask questions.State) request = AsksForPath (codes "/state") request
+IsRoute Pieces request = AsksForPath (codes "/pieces") request
+IsRoute (Take hands.Text) request = HandsToPath (codes "/fragments") request
+IsRoute (Take hands.State) request = HandsToPath (codes "/state") request
+IsRoute Health request = AsksForPath (codes "/healthz") request
+IsRoute Metrics request = AsksForPath (codes "/metrics") request
+IsRoute Page request = AsksForPath (codes "/") request
+IsRoute OtherMethod request = (¬ IsReadRequest request) × (¬ IsWriting request)
 IsRoute Unknown request =
-    (IsReading request × IsNoneOf read_paths (path_of request))
+    (IsReadRequest request × IsNoneOf read_paths (path_of request))
     ⊎ (IsWriting request × IsNoneOf written_paths (path_of request))
 
 -- the piece that bytes are
-abbrev pub handed : Hand → List ℕ → Piece
-handed hands.Text bytes = text bytes
-handed hands.State bytes = state bytes
+abbrev pub piece_of_bytes : PieceKind → List ℕ → Piece
+piece_of_bytes hands.Text bytes = text bytes
+piece_of_bytes hands.State bytes = state bytes
 
 -- the piece that a request hands in: a state at /state, and else a text
 abbrev pub piece_in : Request (List ℕ) → Piece

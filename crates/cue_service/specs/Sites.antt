@@ -4,22 +4,22 @@ use Rattle.cue_lattice.specs.World.{Piece, IsUnified}
 use Rattle.cue_replica.specs.Language.{language}
 use Rattle.http.specs.declared.request.Request.{Request}
 use Rattle.http_server.specs.declared.response.Response.{Response}
-use Rattle.cue_journal.specs.Blocks.{recovered}
+use Rattle.cue_journal.specs.Blocks.{recovered_pieces}
 use Rattle.cue_journal.specs.Settled.{IsBatch}
 use Rattle.cue_journal.specs.Batches.{batch_bytes}
-use Rattle.cue_journal.specs.Pairs.{IsPairReady, MayLeave, entries_of, is_whole}
+use Rattle.cue_journal.specs.Pairs.{IsPairReady, MayLeave, entries_of_pair, is_whole}
 use Rattle.cue_service.specs.declared.site.Site.{Site}
-use Rattle.cue_service.specs.Answering.{Answers, Gathers, GathersPieces, IsSame}
+use Rattle.cue_service.specs.Answering.{AnswersRequest, GathersState, GathersPieces, IsSame}
 use Rattle.cue_service.specs.Entries.{StandFor}
 
 -- the answer to a request, of the table that the site holds then
 pub record AnswersAt {D : Type 0} (old : Site D) (request : Request (List ℕ)) (response : Response) (new : Site D) : Type 0 where
-  pub answer : Answers old.desk request response new.desk
+  pub answer : AnswersRequest old.desk request response new.desk
   pub files : new.files ≡ old.files
 
 -- the state of another site comes
 pub record GathersAt {D : Type 0} (bytes : List ℕ) (old new : Site D) : Type 0 where
-  pub gathers : Gathers bytes old.desk new.desk
+  pub gathers : GathersState bytes old.desk new.desk
   pub files : new.files ≡ old.files
 
 -- pieces of another site come
@@ -28,7 +28,7 @@ pub record GathersPiecesAt {D : Type 0} (pieces : List Piece) (old new : Site D)
   pub files : new.files ≡ old.files
 
 -- only counts change
-pub record IsUntouched {D : Type 0} (old new : Site D) : Type 0 where
+pub record IsSiteUntouched {D : Type 0} (old new : Site D) : Type 0 where
   pub same : IsSame old.desk new.desk
   pub files : new.files ≡ old.files
 
@@ -39,8 +39,8 @@ module _ {D : Type 0} (seen : D → List ℕ) (may_leave : D → List ℕ → Ty
     pub ready : IsPairReady seen may_leave site.files
     pub batch : IsBatch (batch_bytes site.desk.batch)
     pub held : IsUnified language site.desk.board pieces
-    pub disk : StandFor (entries_of seen site.files) on_disk
-    pub all : StandFor (entries_of seen site.files ++ recovered (batch_bytes site.desk.batch)) pieces
+    pub disk : StandFor (entries_of_pair seen site.files) on_disk
+    pub all : StandFor (entries_of_pair seen site.files ++ recovered_pieces (batch_bytes site.desk.batch)) pieces
 
   -- a crash leaves what stands for the pieces that were on the disk, or for all
   abbrev pub Leaves : Site D → List Piece → List Piece → Type 0

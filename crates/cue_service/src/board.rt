@@ -2,17 +2,17 @@ ghost use Rattle.std.specs.Prelude.{◌≡◌, ℕ, List, IfOk, IfErr, OnOk, OnE
 ghost use Rattle.cue_lattice.specs.World.{piece_refuses};
 ghost use Rattle.cue_replica.specs.Accepted.{IsAcceptable};
 ghost use Rattle.cue_replica.specs.Language.{language};
-ghost use Rattle.cue_replica.specs.Replica.{Adds};
+ghost use Rattle.cue_replica.specs.Replica.{AddsRefusals};
 ghost use Rattle.cue_service.specs.Pulls.{IsRefusalOf};
-ghost use Rattle.cue_service.specs.Requests.{handed};
+ghost use Rattle.cue_service.specs.Requests.{piece_of_bytes};
 ghost use Rattle.cue_service.specs.Tags.{tag_of};
 
-use crate::entries::hand_over;
-use crate::kept::{Kept, Told};
-use crate::route::Hand;
+use crate::entries::submit_piece;
+use crate::kept::{AnswerCache, KeptAnswer};
+use crate::route::PieceKind;
 use crate::tag::tag_text;
 use bytes::Bytes;
-use cue_answer::{Question, answer_to};
+use cue_answer::{SiteQuestion, answer_to};
 use cue_lattice::{Memory, Refusal};
 use cue_replica::Replica;
 use http::HeaderValue;
@@ -22,9 +22,9 @@ use std::marker::Model;
 /// A table, with its tag and what was told of it since it changed last. Contracts see the table: so
 /// what is kept is told of the table that the board holds, and of no other.
 #[derive(Drop)]
-pub struct Board {
+pub struct CachedTable {
     table: Replica,
-    kept: Kept,
+    kept: AnswerCache,
     alloc: Global,
     /// Another number for each change of the tag that was looked for.
     edition: u64,
@@ -34,7 +34,7 @@ pub struct Board {
     changes: u64,
 }
 
-impl Model for Board {
+impl Model for CachedTable {
     ghost use Rattle.std.specs.Coded.{codes};
     ghost use Rattle.cue_table.specs.Code.{tree_code};
     ghost use Rattle.cue_replica.specs.Language.{Table};
@@ -45,20 +45,20 @@ impl Model for Board {
 
     ghost view = { λ board. board.table };
 
-    ghost use Rattle.cue_service.specs.Kept.{AreKept};
+    ghost use Rattle.cue_service.specs.Kept.{AreAnswersKept};
 
-    ghost invariant = { λ board. AreKept board.table board.kept };
+    ghost invariant = { λ board. AreAnswersKept board.table board.kept };
 }
 
-impl Board {
-    ghost use Rattle.cue_service.specs.Kept.{IsTold};
+impl CachedTable {
+    ghost use Rattle.cue_service.specs.Kept.{IsKeptAnswer};
 
-    pub(crate) fn new(alloc: Global, table: Replica) -> Board
+    pub(crate) fn new(alloc: Global, table: Replica) -> CachedTable
         ensures { result ≡ table }
     {
-        Board {
+        CachedTable {
             table,
-            kept: Kept::none(),
+            kept: AnswerCache::none(),
             alloc,
             edition: 0,
             seen: None,
@@ -78,14 +78,14 @@ impl Board {
     }
 
     /// What is told of the table. It is made where it was not asked for since the table changed.
-    pub(crate) fn told(&mut self, question: Question) -> Result<Told, Memory>
-        ensures told { IfOk result (IsTold question self.old) }
+    pub(crate) fn answer_to(&mut self, question: SiteQuestion) -> Result<KeptAnswer, Memory>
+        ensures told { IfOk result (IsKeptAnswer question self.old) }
         ensures same { self.new ≡ self.old }
     {
-        if let Some(told) = self.kept.told(question) {
+        if let Some(told) = self.kept.find_answer(question) {
             return told.share();
         }
-        let told = Told::of(answer_to(self.alloc, question, &self.table)?)?;
+        let told = KeptAnswer::of(answer_to(self.alloc, question, &self.table)?)?;
         let shared = told.share()?;
         self.kept.keep(question, told);
         Ok(shared)
@@ -99,7 +99,7 @@ impl Board {
         if let Some(tag) = &self.kept.tag {
             return Ok(tag.clone()?);
         }
-        let state = self.told(Question::State)?;
+        let state = self.answer_to(SiteQuestion::State)?;
         let tag = tag_text(self.alloc, state.bytes.as_slice())?;
         let shared = tag.clone()?;
         self.kept.keep_tag(tag);
@@ -128,16 +128,16 @@ impl Board {
     /// # Errors
     ///
     /// Those of the table. Nothing changes.
-    pub(crate) fn accept(&mut self, hand: Hand, bytes: &[u8]) -> Result<(), Refusal>
-        ensures acceptable { OnOk result (IsAcceptable (handed hand bytes.now)) }
-        ensures adds { OnOk result (Adds self.old (piece_refuses language (handed hand bytes.now))
+    pub(crate) fn accept(&mut self, hand: PieceKind, bytes: &[u8]) -> Result<(), Refusal>
+        ensures acceptable { OnOk result (IsAcceptable (piece_of_bytes hand bytes.now)) }
+        ensures adds { OnOk result (AddsRefusals self.old (piece_refuses language (piece_of_bytes hand bytes.now))
             self.new) }
         ensures valid { OnOk result (language.IsValid self.new) }
-        ensures refused { IfErr result (IsRefusalOf (handed hand bytes.now)) }
+        ensures refused { IfErr result (IsRefusalOf (piece_of_bytes hand bytes.now)) }
         ensures err { OnErr result (self.new ≡ self.old) }
     {
-        hand_over(&mut self.table, hand, bytes)?;
-        self.kept = Kept::none();
+        submit_piece(&mut self.table, hand, bytes)?;
+        self.kept = AnswerCache::none();
         self.changes = self.changes.wrapping_add(1);
         Ok(())
     }
@@ -146,7 +146,7 @@ impl Board {
     pub(crate) fn replace(&mut self, table: Replica)
         ensures { self.new ≡ table }
     {
-        let kept = Kept::none();
+        let kept = AnswerCache::none();
         self.table = table;
         self.kept = kept;
         self.changes = self.changes.wrapping_add(1);

@@ -1,26 +1,26 @@
 ghost use Rattle.std.specs.Prelude.{◌≡◌, ◌≢◌, ◌⊎◌, ◌<◌, ◌^◌, ◌++◌, [], ◌∷◌, ℕ, List, length, codes, true, false, IsTrue, IfOk, IfErr, IfSome, IfNone, OnOk, OnErr};
-ghost use Rattle.cue_journal.specs.Blocks.{recovered};
+ghost use Rattle.cue_journal.specs.Blocks.{recovered_pieces};
 ghost use Rattle.cue_journal.specs.Settled.{IsBatch};
 ghost use Rattle.cue_journal.specs.Batches.{batch_bytes};
 ghost use Rattle.cue_service.specs.Entries.{entry_of};
 ghost use Rattle.cue_service.specs.Listing.{with_entry};
 ghost use Rattle.http_server.specs.Response.{IsBlank};
 ghost use Rattle.cue_lattice.specs.World.{state};
-ghost use Rattle.cue_service.specs.Pulls.{Covers, IsLeftOut, IsRefusalOf};
-ghost use Rattle.cue_service.specs.Requests.{IsRoute, HasField, handed};
+ghost use Rattle.cue_service.specs.Pulls.{CoversPiece, IsLeftOut, IsRefusalOf};
+ghost use Rattle.cue_service.specs.Requests.{IsRoute, HasField, piece_of_bytes};
 ghost use Rattle.cue_service.specs.Tags.{tag_of};
-ghost use Rattle.cue_service.specs.Answering.{Answers, AnswersAs, IsAsked, IsHanded, IsTaken, IsKnown, IsSame, IsSpared, IsUnanswered, Gathers, Brings, status_of};
+ghost use Rattle.cue_service.specs.Answering.{AnswersRequest, AnswersAs, IsAsked, IsHandedToSite, IsPieceTaken, IsTagKnown, IsSame, IsSpared, LeavesUnanswered, GathersState, BringsState, status_of_refusal};
 
-use crate::board::Board;
-use crate::entries::hand_over;
-use crate::listed::{name_with_state, tell_pieces};
+use crate::board::CachedTable;
+use crate::entries::submit_piece;
+use crate::listed::{answer_pieces, name_with_state};
 use crate::page::page;
 use crate::refusal::{refusal_code, refusal_line};
-use crate::route::{Hand, Route, route_of};
+use crate::route::{PieceKind, Route, route_of};
 use crate::standing::Standing;
 use bytes::Bytes;
-use cue_answer::{Question, Status};
-use cue_journal::{Batch, Unfit};
+use cue_answer::{SiteQuestion, Status};
+use cue_journal::{Batch, BlockError};
 use cue_lattice::{Kind, Memory, Refusal};
 use cue_pieces::Pieces;
 use cue_replica::Replica;
@@ -30,29 +30,29 @@ use std::alloc::Global;
 
 /// The word that a request has to bear that hands something in.
 #[derive(Drop)]
-pub struct Token {
+pub struct AccessToken {
     pub bytes: Vec<u8>,
 }
 
 /// A site's table, the entries that wait to reach the disk, the pieces that it accepted since its
 /// start, and who may write.
 #[derive(Drop)]
-pub struct Desk {
+pub struct SiteCore {
     pub(crate) alloc: Global,
-    pub(crate) board: Board,
+    pub(crate) board: CachedTable,
     pub(crate) batch: Batch,
     pub(crate) pieces: Pieces,
-    pub(crate) token: Option<Token>,
+    pub(crate) token: Option<AccessToken>,
     pub(crate) standing: Standing,
 }
 
 /// The first byte of an entry.
-fn mark(hand: Hand) -> u8
-    ensures { (bytes : List ℕ) → entry_of (handed hand bytes) ≡ result ∷ bytes }
+fn mark(hand: PieceKind) -> u8
+    ensures { (bytes : List ℕ) → entry_of (piece_of_bytes hand bytes) ≡ result ∷ bytes }
 {
     match hand {
-        Hand::Text => 0,
-        Hand::State => 1,
+        PieceKind::Text => 0,
+        PieceKind::State => 1,
     }
 }
 
@@ -61,24 +61,29 @@ fn mark(hand: Hand) -> u8
 /// # Errors
 ///
 /// `TooLong` for one of 4 GiB, and `Memory`. Nothing changes.
-fn queue(batch: &mut Batch, pieces: &mut Pieces, hand: Hand, bytes: &[u8]) -> Result<(), Refusal>
+fn queue(
+    batch: &mut Batch,
+    pieces: &mut Pieces,
+    hand: PieceKind,
+    bytes: &[u8],
+) -> Result<(), Refusal>
     ensures waits { OnOk result (IsBatch (batch_bytes batch.old) → IsBatch (batch_bytes batch.new)
-        × (recovered (batch_bytes batch.new)
-        ≡ recovered (batch_bytes batch.old) ++ entry_of (handed hand bytes.now) ∷ [])) }
+        × (recovered_pieces (batch_bytes batch.new)
+        ≡ recovered_pieces (batch_bytes batch.old) ++ entry_of (piece_of_bytes hand bytes.now) ∷ [])) }
     ensures fits { OnOk result (length bytes.now < 2 ^ 32) }
     ensures appends { OnOk result ((more : List ℕ)
         × (batch_bytes batch.new ≡ batch_bytes batch.old ++ more)) }
     ensures listed { OnOk result (pieces.new ≡ with_entry pieces.old
-        (entry_of (handed hand bytes.now))) }
-    ensures left_out { IfErr result (IsLeftOut (handed hand bytes.now)) }
+        (entry_of (piece_of_bytes hand bytes.now))) }
+    ensures left_out { IfErr result (IsLeftOut (piece_of_bytes hand bytes.now)) }
     ensures err { OnErr result (batch_bytes batch.new ≡ batch_bytes batch.old) }
     ensures unlisted { OnErr result (pieces.new ≡ pieces.old) }
 {
     let waiting = batch.len();
     match batch.push(mark(hand), bytes) {
         Ok(()) => {}
-        Err(Unfit::TooLong) => return Err(Refusal::at(Kind::TooLong, 0)),
-        Err(Unfit::OutOfMemory(error)) => return Err(Refusal::from(Memory::from(error))),
+        Err(BlockError::TooLong) => return Err(Refusal::at(Kind::TooLong, 0)),
+        Err(BlockError::OutOfMemory(error)) => return Err(Refusal::from(Memory::from(error))),
     }
     if let Err(error) = pieces.add(mark(hand), bytes) {
         batch.cut(waiting);
@@ -95,22 +100,22 @@ fn whole(text: String, kind: HeaderValue, response: &mut Response) -> Result<(),
     Ok(())
 }
 
-impl Desk {
+impl SiteCore {
     /// One that accepted nothing in this run, whose number no other run has.
     pub fn new(
         alloc: Global,
         board: Replica,
-        token: Option<Token>,
+        token: Option<AccessToken>,
         standing: Standing,
         run: u64,
-    ) -> Desk
+    ) -> SiteCore
         ensures board { result.board ≡ board }
         ensures pieces { result.pieces ≡ record { run = run; given_up = 0; kept = [] } }
         ensures empty { batch_bytes result.batch ≡ [] }
     {
-        Desk {
+        SiteCore {
             alloc,
-            board: Board::new(alloc, board),
+            board: CachedTable::new(alloc, board),
             batch: Batch::new(alloc),
             pieces: Pieces::new(alloc, run),
             token,
@@ -121,7 +126,7 @@ impl Desk {
     /// Answers a request. Where memory is wanting the answer is 507, and nothing changes.
     pub(crate) fn answer(&mut self, request: &Request<Bytes>, response: &mut Response)
         requires { IsBlank response.old }
-        ensures { Answers self.old request.now response.new self.new }
+        ensures { AnswersRequest self.old request.now response.new self.new }
     {
         let route = route_of(request);
         if let Ok(()) = self.answer_as(route, request, response) {
@@ -140,19 +145,19 @@ impl Desk {
     ) -> Result<(), Memory>
         requires { IsBlank response.old }
         ensures ok { OnOk result (AnswersAs route self.old request.now response.new self.new) }
-        ensures err { OnErr result (IsUnanswered route self.old self.new) }
+        ensures err { OnErr result (LeavesUnanswered route self.old self.new) }
     {
         match route {
             Route::Ask(question) => {
-                tell(&mut self.board, question, request, response)?;
+                answer_question(&mut self.board, question, request, response)?;
                 name_with_state(self.alloc, question, &self.pieces, response)
             }
             Route::Pieces => {
-                tell_pieces(self.alloc, &self.pieces, request, response)?;
-                self.standing.told_pieces(response.status);
+                answer_pieces(self.alloc, &self.pieces, request, response)?;
+                self.standing.note_pieces_sent(response.status);
                 Ok(())
             }
-            Route::Take(hand) => self.hand_in(hand, request, response),
+            Route::Take(hand) => self.accept_request(hand, request, response),
             Route::Health => Ok(response.body.push(Bytes::from_static(b"up\n"))?),
             Route::Metrics => {
                 let text = self.standing.metrics(self.alloc, &mut self.board)?;
@@ -176,14 +181,14 @@ impl Desk {
     }
 
     /// Accepts what a request hands in, or says why not.
-    fn hand_in(
+    fn accept_request(
         &mut self,
-        hand: Hand,
+        hand: PieceKind,
         request: &Request<Bytes>,
         response: &mut Response,
     ) -> Result<(), Memory>
         requires { IsBlank response.old }
-        ensures ok { OnOk result (IsHanded hand self.old request.now response.new self.new) }
+        ensures ok { OnOk result (IsHandedToSite hand self.old request.now response.new self.new) }
         ensures err { OnErr result (IsSpared self.old self.new) }
     {
         if !self.may_write(request) {
@@ -193,7 +198,7 @@ impl Desk {
         let bytes = request.body().as_slice();
         match self.take_in(hand, bytes) {
             Ok(()) => {
-                self.standing.took();
+                self.standing.note_taken();
                 response.status = StatusCode::NO_CONTENT;
                 Ok(())
             }
@@ -213,9 +218,9 @@ impl Desk {
     /// # Errors
     ///
     /// Those of the site. Nothing changes but the pieces that are kept.
-    fn take_in(&mut self, hand: Hand, bytes: &[u8]) -> Result<(), Refusal>
-        ensures ok { OnOk result (IsTaken (handed hand bytes.now) self.old self.new
-            ⊎ IsKnown (handed hand bytes.now) self.old self.new) }
+    fn take_in(&mut self, hand: PieceKind, bytes: &[u8]) -> Result<(), Refusal>
+        ensures ok { OnOk result (IsPieceTaken (piece_of_bytes hand bytes.now) self.old self.new
+            ⊎ IsTagKnown (piece_of_bytes hand bytes.now) self.old self.new) }
         ensures err { OnErr result (IsSpared self.old self.new) }
     {
         match self.accept_new(hand, bytes) {
@@ -232,12 +237,12 @@ impl Desk {
     /// # Errors
     ///
     /// Those of the site. Nothing changes.
-    fn accept_new(&mut self, hand: Hand, bytes: &[u8]) -> Result<(), Refusal>
-        ensures ok { OnOk result (IsTaken (handed hand bytes.now) self.old self.new
-            ⊎ IsKnown (handed hand bytes.now) self.old self.new) }
+    fn accept_new(&mut self, hand: PieceKind, bytes: &[u8]) -> Result<(), Refusal>
+        ensures ok { OnOk result (IsPieceTaken (piece_of_bytes hand bytes.now) self.old self.new
+            ⊎ IsTagKnown (piece_of_bytes hand bytes.now) self.old self.new) }
         ensures err { OnErr result (IsSame self.old self.new) }
     {
-        if self.has(hand, bytes)? {
+        if self.contains_piece(hand, bytes)? {
             return Ok(());
         }
         self.accept(hand, bytes)
@@ -248,14 +253,18 @@ impl Desk {
     /// # Errors
     ///
     /// `Memory`.
-    fn has(&self, hand: Hand, bytes: &[u8]) -> Result<bool, Refusal>
-        ensures { IfOk result (λ has. IsTrue has → IsKnown (handed hand bytes.now) self.now self.now) }
+    fn contains_piece(&self, hand: PieceKind, bytes: &[u8]) -> Result<bool, Refusal>
+        ensures { IfOk result (λ has. IsTrue has → IsTagKnown (piece_of_bytes hand bytes.now) self.now self.now) }
     {
-        if !self.pieces.has(mark(hand), bytes).map_err(Memory::from)? {
+        if !self
+            .pieces
+            .contains_parts(mark(hand), bytes)
+            .map_err(Memory::from)?
+        {
             return Ok(false);
         }
         let mut all = self.board.table().copy(self.alloc)?;
-        hand_over(&mut all, hand, bytes)?;
+        submit_piece(&mut all, hand, bytes)?;
         Ok(all.same(self.board.table()))
     }
 
@@ -264,9 +273,9 @@ impl Desk {
     /// # Errors
     ///
     /// Those of the site. Nothing changes.
-    pub(crate) fn accept(&mut self, hand: Hand, bytes: &[u8]) -> Result<(), Refusal>
-        ensures ok { OnOk result (IsTaken (handed hand bytes.now) self.old self.new) }
-        ensures left_out { IfErr result (IsLeftOut (handed hand bytes.now)) }
+    pub(crate) fn accept(&mut self, hand: PieceKind, bytes: &[u8]) -> Result<(), Refusal>
+        ensures ok { OnOk result (IsPieceTaken (piece_of_bytes hand bytes.now) self.old self.new) }
+        ensures left_out { IfErr result (IsLeftOut (piece_of_bytes hand bytes.now)) }
         ensures err { OnErr result (IsSame self.old self.new) }
     {
         let waiting = self.batch.len();
@@ -286,12 +295,12 @@ impl Desk {
 
     /// Takes the state of another site, unless it brings nothing. Answers whether that went well.
     pub(crate) fn gather(&mut self, bytes: &[u8]) -> bool
-        ensures gathers { Gathers bytes.now self.old self.new }
-        ensures brings { IsTrue result → Covers self.new.board (state bytes.now) }
+        ensures gathers { GathersState bytes.now self.old self.new }
+        ensures brings { IsTrue result → CoversPiece self.new.board (state bytes.now) }
     {
         match self.take_over(bytes) {
             Ok(true) => {
-                self.standing.gathered();
+                self.standing.note_gathered();
                 true
             }
             Ok(false) => true,
@@ -308,15 +317,15 @@ impl Desk {
     ///
     /// Those of the site. Nothing changes.
     pub(crate) fn take_over(&mut self, bytes: &[u8]) -> Result<bool, Refusal>
-        ensures ok { IfOk result (λ brings. Gathers bytes.now self.old self.new) }
-        ensures brings { OnOk result (Covers self.new.board (state bytes.now)) }
+        ensures ok { IfOk result (λ brings. GathersState bytes.now self.old self.new) }
+        ensures brings { OnOk result (CoversPiece self.new.board (state bytes.now)) }
         ensures left_out { IfErr result (IsLeftOut (state bytes.now)) }
         ensures err { OnErr result (IsSame self.old self.new) }
     {
-        let Some(next) = grown(self.alloc, self.board.table(), bytes)? else {
+        let Some(next) = unify_bytes(self.alloc, self.board.table(), bytes)? else {
             return Ok(false);
         };
-        queue(&mut self.batch, &mut self.pieces, Hand::State, bytes)?;
+        queue(&mut self.batch, &mut self.pieces, PieceKind::State, bytes)?;
         self.board.replace(next);
         self.pieces.trim();
         Ok(true)
@@ -338,9 +347,9 @@ impl Desk {
 }
 
 /// Answers a question, unless the one who asks has the table.
-fn tell(
-    board: &mut Board,
-    question: Question,
+fn answer_question(
+    board: &mut CachedTable,
+    question: SiteQuestion,
     request: &Request<Bytes>,
     response: &mut Response,
 ) -> Result<(), Memory>
@@ -355,7 +364,7 @@ fn tell(
         response.status = StatusCode::NOT_MODIFIED;
         return Ok(());
     }
-    let told = board.told(question)?;
+    let told = board.answer_to(question)?;
     response.add_header(header::CONTENT_TYPE, content_type(question, told.status))?;
     response.status = status_code(question, told.status);
     response.body.push(told.bytes)?;
@@ -363,9 +372,9 @@ fn tell(
 }
 
 /// The site with these state bytes, where they bring something.
-fn grown(alloc: Global, site: &Replica, bytes: &[u8]) -> Result<Option<Replica>, Refusal>
-    ensures some { IfOk result (λ found. IfSome found (Brings bytes.now site.now)) }
-    ensures none { IfOk result (λ found. IfNone found (Covers site.now (state bytes.now))) }
+fn unify_bytes(alloc: Global, site: &Replica, bytes: &[u8]) -> Result<Option<Replica>, Refusal>
+    ensures some { IfOk result (λ found. IfSome found (BringsState bytes.now site.now)) }
+    ensures none { IfOk result (λ found. IfNone found (CoversPiece site.now (state bytes.now))) }
     ensures refused { IfErr result (IsRefusalOf (state bytes.now)) }
 {
     let mut next = site.copy(alloc)?;
@@ -397,20 +406,20 @@ fn is_known(request: &Request<Bytes>, tag: &[u8]) -> bool
     }
 }
 
-fn status_code(question: Question, status: Status) -> StatusCode
-    ensures { result ≡ status_of question status }
+fn status_code(question: SiteQuestion, status: Status) -> StatusCode
+    ensures { result ≡ status_of_refusal question status }
 {
     match (question, status) {
-        (Question::Export, Status::Conflicts) => StatusCode::CONFLICT,
-        (Question::Export, Status::Incomplete) => StatusCode::UNPROCESSABLE_ENTITY,
+        (SiteQuestion::Export, Status::Conflicts) => StatusCode::CONFLICT,
+        (SiteQuestion::Export, Status::Incomplete) => StatusCode::UNPROCESSABLE_ENTITY,
         _ => StatusCode::OK,
     }
 }
 
-fn content_type(question: Question, status: Status) -> HeaderValue {
+fn content_type(question: SiteQuestion, status: Status) -> HeaderValue {
     match (question, status) {
-        (Question::Export, Status::Done) => HeaderValue::from_static("application/json"),
-        (Question::State, _) => HeaderValue::from_static("application/octet-stream"),
+        (SiteQuestion::Export, Status::Done) => HeaderValue::from_static("application/json"),
+        (SiteQuestion::State, _) => HeaderValue::from_static("application/octet-stream"),
         _ => HeaderValue::from_static("text/plain; charset=utf-8"),
     }
 }

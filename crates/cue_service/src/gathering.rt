@@ -2,14 +2,14 @@ ghost use Rattle.std.specs.Prelude.{◌≡◌, [], ◌∷◌, ℕ, List, map, fa
 ghost use Rattle.std.specs.List.{Contains};
 ghost use Rattle.cue_lattice.specs.World.{Piece};
 ghost use Rattle.cue_replica.specs.Accepted.{IsAcceptable};
-ghost use Rattle.cue_journal.specs.Blocks.{recovered};
+ghost use Rattle.cue_journal.specs.Blocks.{recovered_pieces};
 ghost use Rattle.cue_service.specs.Answering.{IsSame, GathersPiece, GathersPieces};
-ghost use Rattle.cue_service.specs.Entries.{piece_of, pieces_of};
-ghost use Rattle.cue_service.specs.Pulls.{Covers, CoversAll, IsLeftOut, IsOfListed};
+ghost use Rattle.cue_service.specs.Entries.{piece_of_entry, pieces_of};
+ghost use Rattle.cue_service.specs.Pulls.{CoversPiece, CoversAll, IsLeftOut, IsOfListed};
 
-use crate::desk::Desk;
-use crate::entries::{hand_over, parts_of};
-use crate::route::Hand;
+use crate::desk::SiteCore;
+use crate::entries::{parts_of, submit_piece};
+use crate::route::PieceKind;
 use cue_lattice::{Kind, Memory, Refusal};
 use cue_pieces::entries_in;
 use cue_replica::Replica;
@@ -17,13 +17,13 @@ use cue_replica::Replica;
 /// How many bytes an entry has at most that a journal takes.
 const LONGEST: usize = u32::MAX as usize;
 
-impl Desk {
+impl SiteCore {
     /// Takes pieces that another site accepted, in its order, unless they bring nothing, and passes
     /// over what is refused. Answers whether the bytes were those of pieces, and memory sufficed.
     pub(crate) fn gather_pieces(&mut self, bytes: &[u8]) -> bool
-        ensures gathers { GathersPieces (pieces_of (recovered bytes.now)) self.old self.new }
+        ensures gathers { GathersPieces (pieces_of (recovered_pieces bytes.now)) self.old self.new }
         ensures brings { IsTrue result → IsOfListed self.old
-            → CoversAll self.new.board (pieces_of (recovered bytes.now)) }
+            → CoversAll self.new.board (pieces_of (recovered_pieces bytes.now)) }
     {
         match self.take_pieces(bytes) {
             Ok(taken) => taken,
@@ -40,9 +40,9 @@ impl Desk {
     ///
     /// `BadRequest` where the bytes are not those of pieces, and `Memory`. Nothing changes.
     fn take_pieces(&mut self, bytes: &[u8]) -> Result<bool, Refusal>
-        ensures ok { OnOk result (GathersPieces (pieces_of (recovered bytes.now)) self.old self.new) }
+        ensures ok { OnOk result (GathersPieces (pieces_of (recovered_pieces bytes.now)) self.old self.new) }
         ensures brings { IfOk result (λ well. IsTrue well → IsOfListed self.old
-            → CoversAll self.new.board (pieces_of (recovered bytes.now))) }
+            → CoversAll self.new.board (pieces_of (recovered_pieces bytes.now))) }
         ensures err { OnErr result (IsSame self.old self.new) }
     {
         let Some(entries) = entries_in(self.alloc, bytes).map_err(Memory::from)? else {
@@ -70,9 +70,9 @@ impl Desk {
 
     /// Takes a piece, unless it is known. Answers whether memory sufficed, and it was not too long.
     fn gather_entry(&mut self, entry: &[u8]) -> bool
-        ensures gathers { GathersPiece (piece_of entry.now) self.old self.new }
-        ensures brings { IsTrue result → IsOfListed self.old → IsAcceptable (piece_of entry.now)
-            → Covers self.new.board (piece_of entry.now) }
+        ensures gathers { GathersPiece (piece_of_entry entry.now) self.old self.new }
+        ensures brings { IsTrue result → IsOfListed self.old → IsAcceptable (piece_of_entry entry.now)
+            → CoversPiece self.new.board (piece_of_entry entry.now) }
     {
         let taken = match self.take_entry(entry) {
             Ok(taken) => taken,
@@ -82,37 +82,37 @@ impl Desk {
             }
         };
         if taken {
-            self.standing.gathered_piece();
+            self.standing.note_gathered_piece();
         }
         true
     }
 
     /// Takes a text, unless it is known, and a state, unless it brings nothing.
     fn take_entry(&mut self, entry: &[u8]) -> Result<bool, Refusal>
-        ensures ok { OnOk result (GathersPiece (piece_of entry.now) self.old self.new) }
-        ensures brings { OnOk result (IsOfListed self.old → IsAcceptable (piece_of entry.now)
-            → Covers self.new.board (piece_of entry.now)) }
-        ensures left_out { IfErr result (IsLeftOut (piece_of entry.now)) }
+        ensures ok { OnOk result (GathersPiece (piece_of_entry entry.now) self.old self.new) }
+        ensures brings { OnOk result (IsOfListed self.old → IsAcceptable (piece_of_entry entry.now)
+            → CoversPiece self.new.board (piece_of_entry entry.now)) }
+        ensures left_out { IfErr result (IsLeftOut (piece_of_entry entry.now)) }
         ensures err { OnErr result (IsSame self.old self.new) }
     {
         let (hand, bytes) = parts_of(entry);
         match hand {
-            Hand::State => self.take_over(bytes),
-            Hand::Text => {
-                if self.knows(entry)? {
+            PieceKind::State => self.take_over(bytes),
+            PieceKind::Text => {
+                if self.contains_entry(entry)? {
                     return Ok(false);
                 }
-                self.accept(Hand::Text, bytes)?;
+                self.accept(PieceKind::Text, bytes)?;
                 Ok(true)
             }
         }
     }
 
     /// Whether an entry is found among those that were accepted.
-    fn knows(&self, entry: &[u8]) -> Result<bool, Memory>
+    fn contains_entry(&self, entry: &[u8]) -> Result<bool, Memory>
         ensures { IfOk result (λ known. IsTrue known → Contains self.now.pieces.kept entry.now) }
     {
-        Ok(self.pieces.knows(entry)?)
+        Ok(self.pieces.contains_entry(entry)?)
     }
 
     /// Whether these may bring something. As long as all are known that were accepted, each that is
@@ -143,12 +143,12 @@ impl Desk {
 ///
 /// `Memory`.
 fn offer(site: &mut Replica, entry: &[u8]) -> Result<(), Refusal>
-    ensures keeps { OnOk result ((piece : Piece) → Covers site.old piece → Covers site.new piece) }
-    ensures brings { OnOk result (IsAcceptable (piece_of entry.now)
-        → Covers site.new (piece_of entry.now)) }
+    ensures keeps { OnOk result ((piece : Piece) → CoversPiece site.old piece → CoversPiece site.new piece) }
+    ensures brings { OnOk result (IsAcceptable (piece_of_entry entry.now)
+        → CoversPiece site.new (piece_of_entry entry.now)) }
 {
     let (hand, bytes) = parts_of(entry);
-    match hand_over(site, hand, bytes) {
+    match submit_piece(site, hand, bytes) {
         Ok(()) => Ok(()),
         Err(why) => {
             if why.kind == Kind::Memory {

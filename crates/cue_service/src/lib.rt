@@ -19,10 +19,10 @@ mod snapshots;
 mod standing;
 mod tag;
 
-pub use desk::{Desk, Token};
+pub use desk::{AccessToken, SiteCore};
 pub use entries::{add_entries, snapshot_in};
 pub use laws::{a_round_keeps_its_promise, calls_are_events};
-pub use route::{Hand, Route};
+pub use route::{PieceKind, Route};
 pub use shown::{Shown, is_hidden};
 pub use site::Site;
 pub use standing::{SourceStanding, Standing};

@@ -3,12 +3,12 @@ ghost use Rattle.cue_pieces.specs.Cursors.{IsCursor, cursor_text};
 ghost use Rattle.cue_pieces.specs.Listed.{next_of};
 ghost use Rattle.http_server.specs.Response.{IsBlank, fields_of};
 ghost use Rattle.cue_service.specs.Requests.{AsksBehind};
-ghost use Rattle.cue_service.specs.Listing.{IsNamed, IsToldPieces};
+ghost use Rattle.cue_service.specs.Listing.{IsNamedPlace, AnswersWithPieces};
 
 use bytes::Bytes;
-use cue_answer::Question;
+use cue_answer::SiteQuestion;
 use cue_lattice::Memory;
-use cue_pieces::{Cursor, Pieces};
+use cue_pieces::{PieceCursor, Pieces};
 use http::{HeaderName, HeaderValue, Request, StatusCode, header};
 use http_server::Response;
 use std::alloc::Global;
@@ -28,48 +28,48 @@ fn name_cursor(alloc: Global, pieces: &Pieces, response: &mut Response) -> Resul
 /// Names that place in a response that tells the state.
 pub(crate) fn name_with_state(
     alloc: Global,
-    question: Question,
+    question: SiteQuestion,
     pieces: &Pieces,
     response: &mut Response,
 ) -> Result<(), Memory>
-    ensures named { OnOk result (IsNamed question pieces.now response.new) }
+    ensures named { OnOk result (IsNamedPlace question pieces.now response.new) }
     ensures status { response.new.status ≡ response.old.status }
     ensures body { response.new.body ≡ response.old.body }
 {
     match question {
-        Question::State => name_cursor(alloc, pieces, response),
-        Question::Export => Ok(()),
-        Question::Print => Ok(()),
-        Question::Report => Ok(()),
+        SiteQuestion::State => name_cursor(alloc, pieces, response),
+        SiteQuestion::Export => Ok(()),
+        SiteQuestion::Print => Ok(()),
+        SiteQuestion::Report => Ok(()),
     }
 }
 
 /// The place behind which a request asks for pieces.
-fn cursor_in(request: &Request<Bytes>) -> Option<Cursor>
+fn cursor_in(request: &Request<Bytes>) -> Option<PieceCursor>
     ensures some { IfSome result (λ cursor. (text : List ℕ) × AsksBehind text request.now
         × IsCursor text cursor.run cursor.count) }
     ensures none { IfNone result ((run count : ℕ) → run < 2 ^ 64 → count < 2 ^ 64
         → ¬ AsksBehind (cursor_text run count) request.now) }
 {
     let query = request.uri().query()?;
-    Cursor::read(query.strip_prefix("after=")?)
+    PieceCursor::read(query.strip_prefix("after=")?)
 }
 
 /// Answers with the pieces that were accepted behind the place that a request names.
-pub(crate) fn tell_pieces(
+pub(crate) fn answer_pieces(
     alloc: Global,
     pieces: &Pieces,
     request: &Request<Bytes>,
     response: &mut Response,
 ) -> Result<(), Memory>
     requires { IsBlank response.old }
-    ensures { OnOk result (IsToldPieces pieces.now request.now response.new) }
+    ensures { OnOk result (AnswersWithPieces pieces.now request.now response.new) }
 {
     let Some(cursor) = cursor_in(request) else {
         response.status = StatusCode::BAD_REQUEST;
         return Ok(());
     };
-    let body = match pieces.behind(cursor)? {
+    let body = match pieces.blocks_behind(cursor)? {
         Some(body) => body,
         None => {
             response.status = StatusCode::GONE;

@@ -1,9 +1,9 @@
 ghost use Rattle.std.specs.Prelude.{◌≡◌, IfOk};
 
-use crate::board::Board;
+use crate::board::CachedTable;
 use crate::shown::Shown;
 use crate::standing::Standing;
-use cue_answer::{Question, Status};
+use cue_answer::{SiteQuestion, Status};
 use cue_lattice::Memory;
 use std::alloc::Global;
 use std::fmt::Write;
@@ -18,12 +18,12 @@ struct Counts {
 }
 
 /// What is counted of the table that a board holds.
-fn counts_of(board: &mut Board) -> Result<Counts, Memory>
+fn counts_of(board: &mut CachedTable) -> Result<Counts, Memory>
     ensures same { board.new ≡ board.old }
 {
-    let export = board.told(Question::Export)?;
-    let report = board.told(Question::Report)?;
-    let state = board.told(Question::State)?;
+    let export = board.answer_to(SiteQuestion::Export)?;
+    let report = board.answer_to(SiteQuestion::Report)?;
+    let state = board.answer_to(SiteQuestion::State)?;
     let all = lines(report.bytes.as_slice());
     let conflicts = match export.status {
         Status::Conflicts => lines(export.bytes.as_slice()),
@@ -59,7 +59,7 @@ fn rows_in(state: &[u8]) -> u64 {
 
 impl Standing {
     /// The counts in the text form that Prometheus reads.
-    pub(crate) fn metrics(&self, alloc: Global, board: &mut Board) -> Result<String, Memory>
+    pub(crate) fn metrics(&self, alloc: Global, board: &mut CachedTable) -> Result<String, Memory>
         ensures same { board.new ≡ board.old }
     {
         let counts = counts_of(board)?;
@@ -139,7 +139,7 @@ impl Standing {
     }
 
     fn add_refusals(&self, text: &mut String) -> Result<(), Memory> {
-        head(
+        write_head(
             text,
             "cuestored_pieces_refused_total",
             "Pieces refused, by the kind's number.",
@@ -157,7 +157,7 @@ impl Standing {
     }
 
     fn add_peers(&self, text: &mut String) -> Result<(), Memory> {
-        head(
+        write_head(
             text,
             "cuestored_peer_age_seconds",
             "Seconds since a peer answered last.",
@@ -173,7 +173,7 @@ impl Standing {
                 )?;
             }
         }
-        head(
+        write_head(
             text,
             "cuestored_peer_failures_total",
             "Questions to a peer that failed.",
@@ -212,16 +212,16 @@ fn add_counts(text: &mut String, counts: &Counts) -> Result<(), Memory> {
     )
 }
 
-fn head(text: &mut String, name: &str, help: &str, kind: &str) -> Result<(), Memory> {
+fn write_head(text: &mut String, name: &str, help: &str, kind: &str) -> Result<(), Memory> {
     Ok(write!(text, "# HELP {name} {help}\n# TYPE {name} {kind}\n")?)
 }
 
 fn gauge(text: &mut String, name: &str, help: &str, value: u64) -> Result<(), Memory> {
-    head(text, name, help, "gauge")?;
+    write_head(text, name, help, "gauge")?;
     Ok(write!(text, "{name} {value}\n")?)
 }
 
 fn counter(text: &mut String, name: &str, help: &str, value: u64) -> Result<(), Memory> {
-    head(text, name, help, "counter")?;
+    write_head(text, name, help, "counter")?;
     Ok(write!(text, "{name} {value}\n")?)
 }

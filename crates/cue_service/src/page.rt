@@ -1,9 +1,9 @@
 ghost use Rattle.std.specs.Prelude.{◌≡◌};
 
-use crate::board::Board;
+use crate::board::CachedTable;
 use crate::shown::is_hidden;
 use crate::standing::{SourceStanding, Standing};
-use cue_answer::{Question, Status};
+use cue_answer::{SiteQuestion, Status};
 use cue_lattice::Memory;
 use std::alloc::Global;
 use std::fmt::Write;
@@ -14,12 +14,16 @@ const HEAD: &str =
 
 /// One page for a person: what conflicts and what is incomplete, the printed text, and the other
 /// sites.
-pub(crate) fn page(alloc: Global, board: &mut Board, standing: &Standing) -> Result<String, Memory>
+pub(crate) fn page(
+    alloc: Global,
+    board: &mut CachedTable,
+    standing: &Standing,
+) -> Result<String, Memory>
     ensures same { board.new ≡ board.old }
 {
     let mut text = String::from_str(alloc, HEAD)?;
     add_faults(&mut text, board)?;
-    let print = board.told(Question::Print)?;
+    let print = board.answer_to(SiteQuestion::Print)?;
     text.push_str("<h2>What is known</h2>\n<pre>")?;
     escape(&mut text, print.bytes.as_slice())?;
     text.push_str("</pre>\n<h2>Peers</h2>\n")?;
@@ -31,11 +35,11 @@ pub(crate) fn page(alloc: Global, board: &mut Board, standing: &Standing) -> Res
 }
 
 /// What conflicts, and what is incomplete.
-fn add_faults(text: &mut String, board: &mut Board) -> Result<(), Memory>
+fn add_faults(text: &mut String, board: &mut CachedTable) -> Result<(), Memory>
     ensures same { board.new ≡ board.old }
 {
-    let export = board.told(Question::Export)?;
-    let report = board.told(Question::Report)?;
+    let export = board.answer_to(SiteQuestion::Export)?;
+    let report = board.answer_to(SiteQuestion::Report)?;
     let conflicts = match export.status {
         Status::Conflicts => export.bytes.len(),
         _ => 0,

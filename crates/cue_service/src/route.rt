@@ -2,12 +2,12 @@ ghost use Rattle.cue_service.specs.Requests.{IsRoute};
 ghost use Rattle.cue_service.specs.Inner.Routes.{IsReadAt, IsWrittenAt};
 
 use bytes::Bytes;
-use cue_answer::Question;
+use cue_answer::SiteQuestion;
 use http::Request;
 
 /// What is handed in.
 #[derive(Clone, Copy, Debug, PartialEq, Eq)]
-pub enum Hand {
+pub enum PieceKind {
     Text,
     State,
 }
@@ -16,11 +16,11 @@ pub enum Hand {
 #[derive(Clone, Copy, Debug, PartialEq, Eq)]
 pub enum Route {
     /// A question about the table.
-    Ask(Question),
+    Ask(SiteQuestion),
     /// The pieces that were accepted behind a place.
     Pieces,
     /// To accept the body.
-    Take(Hand),
+    Take(PieceKind),
     /// Whether the process is alive.
     Health,
     /// The counts.
@@ -38,21 +38,21 @@ pub(crate) fn route_of(request: &Request<Bytes>) -> Route
 {
     let path = request.uri().path();
     match request.method().as_str() {
-        "GET" => asked_at(path),
-        "HEAD" => asked_at(path),
+        "GET" => route_at(path),
+        "HEAD" => route_at(path),
         "POST" => taken_at(path),
         _ => Route::OtherMethod,
     }
 }
 
-fn asked_at(path: &str) -> Route
+fn route_at(path: &str) -> Route
     ensures { IsReadAt result path.now }
 {
     match path {
-        "/export" => Route::Ask(Question::Export),
-        "/print" => Route::Ask(Question::Print),
-        "/report" => Route::Ask(Question::Report),
-        "/state" => Route::Ask(Question::State),
+        "/export" => Route::Ask(SiteQuestion::Export),
+        "/print" => Route::Ask(SiteQuestion::Print),
+        "/report" => Route::Ask(SiteQuestion::Report),
+        "/state" => Route::Ask(SiteQuestion::State),
         "/pieces" => Route::Pieces,
         "/healthz" => Route::Health,
         "/metrics" => Route::Metrics,
@@ -65,8 +65,8 @@ fn taken_at(path: &str) -> Route
     ensures { IsWrittenAt result path.now }
 {
     match path {
-        "/fragments" => Route::Take(Hand::Text),
-        "/state" => Route::Take(Hand::State),
+        "/fragments" => Route::Take(PieceKind::Text),
+        "/state" => Route::Take(PieceKind::State),
         _ => Route::Unknown,
     }
 }

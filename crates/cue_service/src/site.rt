@@ -2,21 +2,21 @@ ghost use Rattle.std.specs.Prelude.{◌≡◌, ◌++◌, [], ℕ, List, map, tru
 ghost use Rattle.cue_lattice.specs.World.{Piece, state};
 ghost use Rattle.cue_replica.specs.Accepted.{IsOfPieces};
 ghost use Rattle.cue_journal.specs.Batches.{batch_bytes};
-ghost use Rattle.cue_journal.specs.Blocks.{recovered};
-ghost use Rattle.cue_journal.specs.Pairs.{IsPairReady, entries_of, is_whole, MayLeave};
+ghost use Rattle.cue_journal.specs.Blocks.{recovered_pieces};
+ghost use Rattle.cue_journal.specs.Pairs.{IsPairReady, entries_of_pair, is_whole, MayLeave};
 ghost use Rattle.cue_service.specs.Entries.{pieces_of};
 ghost use Rattle.cue_service.specs.Answering.{IsSame};
 ghost use Rattle.cue_service.specs.Listing.{AreListed};
 ghost use Rattle.cue_service.specs.Tags.{tag_of};
-ghost use Rattle.cue_service.specs.Pulls.{Covers, CoversAll, IsOfListed};
+ghost use Rattle.cue_service.specs.Pulls.{CoversPiece, CoversAll, IsOfListed};
 
-use crate::desk::{Desk, Token};
+use crate::desk::{AccessToken, SiteCore};
 use crate::route::seconds_in;
 use crate::snapshots::Snapshots;
 use crate::standing::Standing;
 use bytes::Bytes;
 use cue_http::{Gathers, News};
-use cue_journal::{Pair, Room};
+use cue_journal::{JournalPair, Room};
 use cue_replica::Replica;
 use http::{HeaderValue, Request, StatusCode};
 use http_server::{Response, Settle};
@@ -35,8 +35,8 @@ const STATE: u8 = 1;
 /// A site whose pieces are in two journals. What it answers stands once its round has settled.
 #[derive(Drop)]
 pub struct Site<D: Disk> {
-    desk: Desk,
-    files: Pair<D>,
+    desk: SiteCore,
+    files: JournalPair<D>,
     snapshots: Snapshots,
     /// Why a round did not settle.
     fault: Option<io::Error>,
@@ -59,10 +59,10 @@ fn note(
 ) {
     match condensed {
         Ok(Room::Enough) => {
-            snapshots.written(size);
-            standing.condensed(size);
+            snapshots.note_written(size);
+            standing.note_condensed(size);
         }
-        Ok(Room::Refused(error)) => standing.refused_snapshot(*error),
+        Ok(Room::Refused(error)) => standing.note_refused_snapshot(*error),
         Err(_) => {}
     }
 }
@@ -75,22 +75,22 @@ impl<D: Disk> Site<D> {
     /// so many bytes, with the table of their entries, and a number that no other run has.
     pub fn new(
         alloc: Global,
-        files: Pair<D>,
+        files: JournalPair<D>,
         snapshot: usize,
         board: Replica,
-        token: Option<Token>,
+        token: Option<AccessToken>,
         standing: Standing,
         run: u64,
     ) -> Site<D>
         ensures consistent { IsPairReady D.Disk.seen D.Disk.may_leave files
             → (pieces : List Piece) → IsOfPieces board pieces
-            → pieces ≡ pieces_of (entries_of D.Disk.seen files)
+            → pieces ≡ pieces_of (entries_of_pair D.Disk.seen files)
             → IsConsistent D.Disk.seen D.Disk.may_leave result pieces pieces }
         // It has accepted nothing yet.
         ensures listed { AreListed [] result.desk.pieces }
     {
         Site {
-            desk: Desk::new(alloc, board, token, standing, run),
+            desk: SiteCore::new(alloc, board, token, standing, run),
             files,
             snapshots: Snapshots::new(snapshot),
             fault: None,
@@ -124,7 +124,7 @@ impl<D: Disk> Site<D> {
             snapshots,
             fault,
         } = self;
-        let (grown, changes) = (files.grown(), desk.board.changes());
+        let (grown, changes) = (files.journal_length(), desk.board.changes());
         if !snapshots.is_due(grown, changes) {
             return true;
         }
@@ -136,12 +136,12 @@ impl<D: Disk> Site<D> {
         }
         let Ok(state) = desk.board.table().state(desk.alloc) else {
             desk.standing
-                .refused_snapshot(ErrorKind::OutOfMemory.into());
+                .note_refused_snapshot(ErrorKind::OutOfMemory.into());
             return true;
         };
         if desk.batch.push(STATE, &state).is_err() {
             desk.standing
-                .refused_snapshot(ErrorKind::OutOfMemory.into());
+                .note_refused_snapshot(ErrorKind::OutOfMemory.into());
             return true;
         }
         let condensed = files.condense(&mut desk.batch);
@@ -176,23 +176,23 @@ impl<D: Disk> Settle for Site<D> {
 }
 
 impl<D: Disk> Gathers for Site<D> {
-    ghost use Rattle.cue_service.specs.Sites.{GathersAt, GathersPiecesAt, IsUntouched};
+    ghost use Rattle.cue_service.specs.Sites.{GathersAt, GathersPiecesAt, IsSiteUntouched};
 
     /// Takes the state of another site, unless it brings nothing.
-    fn pulled(&mut self, bytes: &[u8]) -> bool
+    fn pull_state(&mut self, bytes: &[u8]) -> bool
         ensures gathers { GathersAt bytes.now self.old self.new }
         // Where it went well the table refuses all that the state does.
-        ensures brings { IsTrue result → Covers self.new.desk.board (state bytes.now) }
+        ensures brings { IsTrue result → CoversPiece self.new.desk.board (state bytes.now) }
     {
         self.desk.gather(bytes)
     }
 
     /// Takes pieces that another site accepted, in its order.
-    fn pulled_pieces(&mut self, bytes: &[u8]) -> bool
-        ensures gathers { GathersPiecesAt (pieces_of (recovered bytes.now)) self.old self.new }
+    fn pull_pieces(&mut self, bytes: &[u8]) -> bool
+        ensures gathers { GathersPiecesAt (pieces_of (recovered_pieces bytes.now)) self.old self.new }
         // Where it went well the table refuses all that the pieces do which a site accepts.
         ensures brings { IsTrue result → IsOfListed self.old.desk
-            → CoversAll self.new.desk.board (pieces_of (recovered bytes.now)) }
+            → CoversAll self.new.desk.board (pieces_of (recovered_pieces bytes.now)) }
     {
         self.desk.gather_pieces(bytes)
     }
@@ -211,14 +211,14 @@ impl<D: Disk> Gathers for Site<D> {
 
     /// The number goes with the tag of the table.
     fn edition(&mut self) -> u64
-        ensures { IsUntouched self.old self.new }
+        ensures { IsSiteUntouched self.old self.new }
     {
         self.desk.board.edition()
     }
 
     /// The tag of the table.
     fn tag(&mut self) -> Option<HeaderValue>
-        ensures untouched { IsUntouched self.old self.new }
+        ensures untouched { IsSiteUntouched self.old self.new }
         ensures tag { IfSome result (λ tag. tag.bytes ≡ tag_of self.old.desk.board) }
     {
         self.desk.board.tag().ok()
@@ -226,7 +226,7 @@ impl<D: Disk> Gathers for Site<D> {
 
     /// Why the last round did not settle.
     fn fault(&mut self) -> io::Error
-        ensures { IsUntouched self.old self.new }
+        ensures { IsSiteUntouched self.old self.new }
     {
         match self.fault.take() {
             Some(error) => error,
@@ -235,16 +235,16 @@ impl<D: Disk> Gathers for Site<D> {
     }
 
     /// Counts what happened.
-    fn hear(&mut self, news: News)
-        ensures { IsUntouched self.old self.new }
+    fn note_news(&mut self, news: News)
+        ensures { IsSiteUntouched self.old self.new }
     {
-        self.desk.standing.hear(news);
-        self.desk.standing.grown(self.files.grown());
+        self.desk.standing.note_news(news);
+        self.desk.standing.note_grown(self.files.journal_length());
     }
 
     /// Writes a line for each event since the last call.
     fn report<L: Log>(&mut self, log: &L)
-        ensures { IsUntouched self.old self.new }
+        ensures { IsSiteUntouched self.old self.new }
     {
         self.desk.standing.report(log);
     }

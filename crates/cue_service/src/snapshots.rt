@@ -45,7 +45,7 @@ impl Snapshots {
     }
 
     /// One of so many bytes was written.
-    pub(crate) fn written(&mut self, size: usize) {
+    pub(crate) fn note_written(&mut self, size: usize) {
         self.size = size;
         self.refused = None;
     }

@@ -94,19 +94,19 @@ impl Standing {
         }
     }
 
-    pub(crate) fn took(&mut self) {
+    pub(crate) fn note_taken(&mut self) {
         self.taken = self.taken.saturating_add(1);
     }
 
-    pub(crate) fn gathered(&mut self) {
+    pub(crate) fn note_gathered(&mut self) {
         self.gathered = self.gathered.saturating_add(1);
     }
 
-    pub(crate) fn gathered_piece(&mut self) {
+    pub(crate) fn note_gathered_piece(&mut self) {
         self.gathered_pieces = self.gathered_pieces.saturating_add(1);
     }
 
-    pub(crate) fn told_pieces(&mut self, status: StatusCode) {
+    pub(crate) fn note_pieces_sent(&mut self, status: StatusCode) {
         match status {
             StatusCode::OK => self.told_pieces = self.told_pieces.saturating_add(1),
             StatusCode::GONE => self.gone_pieces = self.gone_pieces.saturating_add(1),
@@ -122,13 +122,13 @@ impl Standing {
         self.note(Note::Refused(kind, place));
     }
 
-    pub(crate) fn condensed(&mut self, bytes: usize) {
+    pub(crate) fn note_condensed(&mut self, bytes: usize) {
         self.snapshots = self.snapshots.saturating_add(1);
         self.note(Note::Condensed(bytes));
     }
 
     /// A snapshot could not be written.
-    pub(crate) fn refused_snapshot(&mut self, error: io::Error) {
+    pub(crate) fn note_refused_snapshot(&mut self, error: io::Error) {
         self.note(Note::NoSnapshot(error));
     }
 
@@ -137,11 +137,11 @@ impl Standing {
         self.note(Note::TooLong(size));
     }
 
-    pub(crate) fn grown(&mut self, journal: usize) {
+    pub(crate) fn note_grown(&mut self, journal: usize) {
         self.journal = journal;
     }
 
-    pub(crate) fn hear(&mut self, news: News) {
+    pub(crate) fn note_news(&mut self, news: News) {
         match news {
             News::Now(now) => self.now = now,
             News::Connections {
@@ -153,13 +153,13 @@ impl Standing {
                 self.waiting = waiting;
                 self.turned_away = turned_away;
             }
-            News::Answered(number) => self.answered(number),
-            News::Failed(number) => self.failed(number),
+            News::Answered(number) => self.note_answered(number),
+            News::Failed(number) => self.note_failed(number),
             News::Forgotten(number) => self.note(Note::Forgotten(number)),
         }
     }
 
-    fn answered(&mut self, number: usize) {
+    fn note_answered(&mut self, number: usize) {
         let now = self.now;
         let mut was_failing = false;
         if let Some(source) = self.sources.get_mut(number) {
@@ -172,7 +172,7 @@ impl Standing {
         }
     }
 
-    fn failed(&mut self, number: usize) {
+    fn note_failed(&mut self, number: usize) {
         let mut was_well = false;
         if let Some(source) = self.sources.get_mut(number) {
             was_well = !source.failing;

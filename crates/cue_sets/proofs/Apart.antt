@@ -3,7 +3,7 @@ use Rattle.std.proofs.Common.{◌≡◌, ℕ, zero, suc, ◌+◌, ◌-◌, ◌<�
 use Rattle.std.proofs.lemmas.Cmp.{nat_list_cmp_total}
 use Rattle.std.specs.declared.cmp.Ordering.TheVariants.{Less}
 use Rattle.cue_sets.specs.Inner.Apart.{AreBelow, AreApart}
-use Rattle.cue_sets.specs.Inner.Merge.{right_merged, merged}
+use Rattle.cue_sets.specs.Inner.Merge.{right_merged, merge_texts}
 use Rattle.cue_sets.specs.Texts.{text_cmp, IsAscending}
 
 -- an ascending list whose last text is below another text
@@ -28,7 +28,7 @@ right_whole kept [] r = refl
 right_whole kept (y ∷ right) r = rw r (ap (λ xs. y ∷ xs) (right_whole kept right r))
 
 -- all texts of lists that are apart are those of the one, and then those of the other
-pub merged_apart : (kept : Bool → Bool → Bool) (left right : List (List ℕ)) → kept true false ≡ true → kept false true ≡ true → AreApart left right → merged kept left right ≡ left ++ right
+pub merged_apart : (kept : Bool → Bool → Bool) (left right : List (List ℕ)) → kept true false ≡ true → kept false true ≡ true → AreApart left right → merge_texts kept left right ≡ left ++ right
 merged_apart kept [] right l r a = right_whole kept right r
 merged_apart kept (x ∷ left) [] l r a = rw l (ap (λ xs. x ∷ xs) (merged_apart kept left [] l r tt))
 merged_apart kept (x ∷ left) (y ∷ right) l r a = rw (a.0, l) (ap (λ xs. x ∷ xs) (merged_apart kept left (y ∷ right) l r a.1))

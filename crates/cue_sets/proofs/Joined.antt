@@ -5,16 +5,16 @@ use Rattle.std.specs.List.Sorted.{IsBinarySearchResult}
 use Rattle.std.specs.Str.{bytes_eq}
 use Rattle.std.specs.declared.cmp.Ordering.TheVariants.{Less, Greater}
 use Rattle.std.proofs.lemmas.Slice.Eq.{bytes_eq-Decides}
-use Rattle.cue_sets.specs.Texts.{is_listed, text_cmp, IsBelowAll, IsAscending}
-use Rattle.cue_sets.specs.TextLaws.{reverse_cmp, IsBelowAll-lower}
+use Rattle.cue_sets.specs.Texts.{is_listed, text_cmp, IsTextBelowAll, IsAscending}
+use Rattle.cue_sets.specs.TextLaws.{reverse_cmp, IsTextBelowAll-lower}
 use Rattle.cue_sets.proofs.TextSearch.{places_ascend}
 
 -- ---- one text joins
-IsBelowAll-insert : (x : List ℕ) (texts : List (List ℕ)) (i : ℕ) (text : List ℕ) → text_cmp x text ≡ Less → IsBelowAll x texts → IsBelowAll x (insert texts i text)
-IsBelowAll-insert x [] zero text h b = (h, b)
-IsBelowAll-insert x [] (suc i) text h b = (h, b)
-IsBelowAll-insert x (y ∷ texts) zero text h b = (h, b)
-IsBelowAll-insert x (y ∷ texts) (suc i) text h b = (b.0, IsBelowAll-insert x texts i text h b.1)
+IsTextBelowAll-insert : (x : List ℕ) (texts : List (List ℕ)) (i : ℕ) (text : List ℕ) → text_cmp x text ≡ Less → IsTextBelowAll x texts → IsTextBelowAll x (insert texts i text)
+IsTextBelowAll-insert x [] zero text h b = (h, b)
+IsTextBelowAll-insert x [] (suc i) text h b = (h, b)
+IsTextBelowAll-insert x (y ∷ texts) zero text h b = (h, b)
+IsTextBelowAll-insert x (y ∷ texts) (suc i) text h b = (b.0, IsTextBelowAll-insert x texts i text h b.1)
 
 -- a list ascends with a text in its place
 pub IsAscending-insert :
@@ -26,9 +26,9 @@ IsAscending-insert [] zero text a below above = (tt, tt)
 IsAscending-insert [] (suc i) text a below above = (tt, tt)
 IsAscending-insert (x ∷ texts) zero text a below above =
     let less = reverse_cmp x text Greater (above 0 (omega arith) (omega arith)) in
-    ((less, IsBelowAll-lower text x texts less a.0), a)
+    ((less, IsTextBelowAll-lower text x texts less a.0), a)
 IsAscending-insert (x ∷ texts) (suc i) text a below above = (
-  IsBelowAll-insert x texts i text (below 0 (omega arith) (omega arith)) a.0,
+  IsTextBelowAll-insert x texts i text (below 0 (omega arith) (omega arith)) a.0,
   IsAscending-insert texts i text a.1 (λ k h l. below (suc k) (omega arith) (omega arith)) (λ k h l. above (suc k) (omega arith) (omega arith)),
 )
 

@@ -6,7 +6,7 @@ use Rattle.std.proofs.lemmas.Int.{ints, by_lt_z}
 use Rattle.std.proofs.lemmas.List.Folds.{list_any_more}
 use Rattle.cue_sets.specs.Pieces.{is_within, is_member, is_int64, least, greatest, AscendsFrom, IsCanonical}
 use Rattle.cue_sets.specs.PieceLaws.{is_within-above, is_within-below, is_within-inside, is_member-append, is_member-above, is_member-below, AscendsFrom-lower}
-use Rattle.cue_sets.specs.Inner.Gaps.{lacks}
+use Rattle.cue_sets.specs.Inner.Gaps.{pieces_lack}
 use Rattle.cue_sets.specs.Inner.Sorted.{IsPiece}
 
 or_assoc : (a b c : Bool) → ((a || b) || c) ≡ (a || (b || c))
@@ -47,7 +47,7 @@ pub record AreGaps (gaps : List (ℤ × ℤ)) (from : ℤ) (rest old all : List 
   pub low : least ≤ℤ from
   pub high : from ≤ℤ greatest
   pub ascending : AscendsFrom from rest
-  pub members : (n : ℤ) → (is_member gaps n || lacks_from from rest n) ≡ (is_member old n || lacks all n)
+  pub members : (n : ℤ) → (is_member gaps n || lacks_from from rest n) ≡ (is_member old n || pieces_lack all n)
 
 -- what is left out before the first piece, and behind it
 gap_here : (from : ℤ) (piece : ℤ × ℤ) (later : List (ℤ × ℤ)) (next n : ℤ) → from ≤ℤ piece.0 → piece.0 ≤ℤ piece.1 → piece.1 ≤ℤ greatest → AscendsFrom (piece.1 +ℤ pos 2) later → next ≡ piece.1 +ℤ pos 1 → (is_within (from, piece.0 -ℤ pos 1) n || lacks_from next later n) ≡ lacks_from from (piece ∷ later) n
@@ -65,7 +65,7 @@ gap_here from piece later next n low some high ascending is =
 members_more :
     (gaps put : List (ℤ × ℤ)) (from first next : ℤ) (piece : ℤ × ℤ) (rest later old all : List (ℤ × ℤ)) → rest ≡ piece ∷ later → AreGaps gaps from rest old all
     → first ≡ piece.0 → ((n : ℤ) → is_member put n ≡ (is_member gaps n || is_within (from, first -ℤ pos 1) n)) → next ≡ piece.1 +ℤ pos 1
-    → (n : ℤ) → (is_member put n || lacks_from next later n) ≡ (is_member old n || lacks all n)
+    → (n : ℤ) → (is_member put n || lacks_from next later n) ≡ (is_member old n || pieces_lack all n)
 members_more gaps put from first next piece rest later old all is g first_is same next_is n =
     let a : AscendsFrom from (piece ∷ later) = subst (AscendsFrom from) is g.ascending in
     ap (λ b. b || lacks_from next later n) (same n ∙ ap (λ m. is_member gaps n || is_within (from, m -ℤ pos 1) n) first_is)
@@ -94,14 +94,14 @@ AreGaps-more gaps put from first next piece rest later old all is g pieces first
 pub AreGaps-last :
     (gaps put : List (ℤ × ℤ)) (from first : ℤ) (piece : ℤ × ℤ) (rest later old all : List (ℤ × ℤ)) → rest ≡ piece ∷ later → AreGaps gaps from rest old all
     → first ≡ piece.0 → ((n : ℤ) → is_member put n ≡ (is_member gaps n || is_within (from, first -ℤ pos 1) n)) → greatest ≤ℤ piece.1
-    → (n : ℤ) → is_member put n ≡ (is_member old n || lacks all n)
+    → (n : ℤ) → is_member put n ≡ (is_member old n || pieces_lack all n)
 AreGaps-last gaps put from first piece rest later old all is g first_is same last n =
     let next = piece.1 +ℤ pos 1 in
     sym (ap (λ b. is_member put n || (b && not (is_member later n))) (empty_within next greatest n (omega (arith, ints))) ∙ or_false (is_member put n))
     ∙ members_more gaps put from first next piece rest later old all is g first_is same refl n
 
 -- behind the last piece
-pub AreGaps-all : (gaps : List (ℤ × ℤ)) (from : ℤ) (rest old all : List (ℤ × ℤ)) → length rest ≡ 0 → AreGaps gaps from rest old all → (n : ℤ) → is_member (gaps ++ (from, greatest) ∷ []) n ≡ (is_member old n || lacks all n)
+pub AreGaps-all : (gaps : List (ℤ × ℤ)) (from : ℤ) (rest old all : List (ℤ × ℤ)) → length rest ≡ 0 → AreGaps gaps from rest old all → (n : ℤ) → is_member (gaps ++ (from, greatest) ∷ []) n ≡ (is_member old n || pieces_lack all n)
 AreGaps-all gaps from (piece ∷ rest) old all none g n = absurd (omega arith)
 AreGaps-all gaps from [] old all none g n =
     member_put gaps (from, greatest) n ∙ ap (λ b. is_member gaps n || b) (sym (and_true (is_within (from, greatest) n))) ∙ g.members n
@@ -110,13 +110,13 @@ AreGaps-all gaps from [] old all none g n =
 -- those of one more set
 pub gaps_more :
     (put gaps set : List (ℤ × ℤ)) (sets : List (List (ℤ × ℤ))) (i : ℕ) (n : ℤ) → i < length sets → set ≡ get_or sets i set
-    → is_member put n ≡ (is_member gaps n || lacks set n) → is_member gaps n ≡ list_any (λ set. lacks set n) (take i sets)
-    → is_member put n ≡ list_any (λ set. lacks set n) (take (i + 1) sets)
+    → is_member put n ≡ (is_member gaps n || pieces_lack set n) → is_member gaps n ≡ list_any (λ set. pieces_lack set n) (take i sets)
+    → is_member put n ≡ list_any (λ set. pieces_lack set n) (take (i + 1) sets)
 gaps_more put gaps set sets i n l is same e =
     same
-    ∙ ap (λ b. b || lacks set n) e
-    ∙ ap (λ xs. list_any (λ set. lacks set n) (take i sets) || lacks xs n) is
-    ∙ sym (list_any_more (λ set. lacks set n) sets i set l)
+    ∙ ap (λ b. b || pieces_lack set n) e
+    ∙ ap (λ xs. list_any (λ set. pieces_lack set n) (take i sets) || pieces_lack xs n) is
+    ∙ sym (list_any_more (λ set. pieces_lack set n) sets i set l)
 
 -- a member is an integer of 64 bits
 member_int64 : (pieces : List (ℤ × ℤ)) (n : ℤ) → IsCanonical pieces → is_member pieces n ≡ true → is_int64 n ≡ true
@@ -128,19 +128,19 @@ member_int64 pieces n canonical m =
     (λ high. is_within-inside (least, greatest) n low high))
 
 -- what none of several sets lacks is a member of all
-none_lacks : (sets : List (List (ℤ × ℤ))) (n : ℤ) → is_int64 n ≡ true → not (list_any (λ set. lacks set n) sets) ≡ list_all (λ set. is_member set n) sets
+none_lacks : (sets : List (List (ℤ × ℤ))) (n : ℤ) → is_int64 n ≡ true → not (list_any (λ set. pieces_lack set n) sets) ≡ list_all (λ set. is_member set n) sets
 none_lacks [] n e = refl
 none_lacks (set ∷ sets) n e =
-    ap (λ b. not ((b && not (is_member set n)) || list_any (λ set. lacks set n) sets)) e
-    ∙ moved (is_member set n) (list_any (λ set. lacks set n) sets)
+    ap (λ b. not ((b && not (is_member set n)) || list_any (λ set. pieces_lack set n) sets)) e
+    ∙ moved (is_member set n) (list_any (λ set. pieces_lack set n) sets)
     ∙ ap (λ b. is_member set n && b) (none_lacks sets n e) where
       moved : (a b : Bool) → not (not a || b) ≡ (a && not b)
       moved true b = refl
       moved false b = refl
 
 -- what the first set has and none of the others lacks
-pub first_but_lacked : (first : List (ℤ × ℤ)) (others : List (List (ℤ × ℤ))) (n : ℤ) → IsCanonical first → (is_member first n && not (list_any (λ set. lacks set n) others)) ≡ list_all (λ set. is_member set n) (first ∷ others)
+pub first_but_lacked : (first : List (ℤ × ℤ)) (others : List (List (ℤ × ℤ))) (n : ℤ) → IsCanonical first → (is_member first n && not (list_any (λ set. pieces_lack set n) others)) ≡ list_all (λ set. is_member set n) (first ∷ others)
 first_but_lacked first others n canonical = cases (is_member first n) refl where
-  cases : (b : Bool) → is_member first n ≡ b → (b && not (list_any (λ set. lacks set n) others)) ≡ (b && list_all (λ set. is_member set n) others)
+  cases : (b : Bool) → is_member first n ≡ b → (b && not (list_any (λ set. pieces_lack set n) others)) ≡ (b && list_all (λ set. is_member set n) others)
   cases false e = refl
   cases true e = none_lacks others n (member_int64 first n canonical e)

@@ -4,7 +4,7 @@ use Rattle.std.specs.declared.cmp.Ordering.TheVariants.{Less}
 use Rattle.std.proofs.lemmas.Bool.{cases_lt}
 use Rattle.std.proofs.lemmas.List.{get_or_default}
 use Rattle.cue_sets.specs.Texts.{text_cmp, IsAscending}
-use Rattle.cue_sets.specs.TextLaws.{IsBelowAll-lower}
+use Rattle.cue_sets.specs.TextLaws.{IsTextBelowAll-lower}
 
 -- each text is below the next one
 abbrev pub AreNeighbours : ℕ → List (List ℕ) → Type 0
@@ -17,7 +17,7 @@ ascending_from_neighbours (x ∷ []) h = (tt, tt)
 ascending_from_neighbours (x ∷ y ∷ texts) h =
     let rest = ascending_from_neighbours (y ∷ texts) (λ k d l. h (suc k) d (omega arith)) in
     let less = h 0 x (omega arith) in
-    ((less, IsBelowAll-lower x y texts less rest.0), rest)
+    ((less, IsTextBelowAll-lower x y texts less rest.0), rest)
 
 -- texts that ascend are each below the next one
 pub neighbours_from_ascending : (texts : List (List ℕ)) → IsAscending texts → AreNeighbours (length texts) texts

@@ -9,7 +9,7 @@ use Rattle.std.specs.declared.cmp.Ordering.TheVariants.{Less, Equal, Greater}
 use Rattle.std.proofs.lemmas.Bool.{false≢true}
 use Rattle.std.proofs.lemmas.List.Sorted.{list_any-IsPermutation}
 use Rattle.cue_sets.specs.Texts.{is_listed, text_cmp, IsAscending}
-use Rattle.cue_sets.specs.TextLaws.{reverse_cmp, same_from_equal, IsBelowAll-lower}
+use Rattle.cue_sets.specs.TextLaws.{reverse_cmp, same_from_equal, IsTextBelowAll-lower}
 
 -- whether a text is below another
 abbrev pub is_below : List ℕ → List ℕ → Bool
@@ -90,7 +90,7 @@ AreOrdered-apart made held next rest later all is o other =
     record {
       ascending = λ more a.
           subst IsAscending (sym (append_assoc made (held ∷ []) (next ∷ more)))
-          (o.ascending (next ∷ more) ((less, IsBelowAll-lower held next more less a.0), a));
+          (o.ascending (next ∷ more) ((less, IsTextBelowAll-lower held next more less a.0), a));
       listed = λ t.
           ap (λ b. b || (bytes_eq next t || is_listed later t)) (is_listed-append made (held ∷ []) t ∙ ap (λ b. is_listed made t || b) (or_false (bytes_eq held t)))
           ∙ or_assoc (is_listed made t) (bytes_eq held t) (bytes_eq next t || is_listed later t)

@@ -5,22 +5,22 @@ use Rattle.std.specs.Str.{bytes_eq}
 use Rattle.std.specs.declared.cmp.Ordering.TheVariants.{Less, Equal}
 use Rattle.std.proofs.Math.Seq.{take-suc}
 use Rattle.std.proofs.lemmas.Slice.Eq.{bytes_eq-Decides}
-use Rattle.cue_sets.specs.Texts.{is_listed, text_cmp, IsBelowAll, IsAscending}
+use Rattle.cue_sets.specs.Texts.{is_listed, text_cmp, IsTextBelowAll, IsAscending}
 use Rattle.cue_sets.specs.TextLaws.{is_listed-below, bytes_eq-greater, same_from_equal}
 use Rattle.cue_sets.proofs.TextSearch.{at_or_below}
 
 -- ---- one text is removed
-IsBelowAll-remove : (x : List ℕ) (texts : List (List ℕ)) (i : ℕ) → IsBelowAll x texts → IsBelowAll x (remove texts i)
-IsBelowAll-remove x [] zero b = b
-IsBelowAll-remove x [] (suc i) b = b
-IsBelowAll-remove x (y ∷ texts) zero b = b.1
-IsBelowAll-remove x (y ∷ texts) (suc i) b = (b.0, IsBelowAll-remove x texts i b.1)
+IsTextBelowAll-remove : (x : List ℕ) (texts : List (List ℕ)) (i : ℕ) → IsTextBelowAll x texts → IsTextBelowAll x (remove texts i)
+IsTextBelowAll-remove x [] zero b = b
+IsTextBelowAll-remove x [] (suc i) b = b
+IsTextBelowAll-remove x (y ∷ texts) zero b = b.1
+IsTextBelowAll-remove x (y ∷ texts) (suc i) b = (b.0, IsTextBelowAll-remove x texts i b.1)
 
 pub IsAscending-remove : (texts : List (List ℕ)) (i : ℕ) → IsAscending texts → IsAscending (remove texts i)
 IsAscending-remove [] zero a = a
 IsAscending-remove [] (suc i) a = a
 IsAscending-remove (x ∷ texts) zero a = a.1
-IsAscending-remove (x ∷ texts) (suc i) a = (IsBelowAll-remove x texts i a.0, IsAscending-remove texts i a.1)
+IsAscending-remove (x ∷ texts) (suc i) a = (IsTextBelowAll-remove x texts i a.0, IsAscending-remove texts i a.1)
 
 and_true : (a : Bool) → (a && true) ≡ a
 and_true true = refl
@@ -96,21 +96,21 @@ one_more_leaves before here after gone i next text up l is so_far now t =
     both false b c = refl
 
 -- ---- some texts are kept
-IsBelowAll-kept : (r : Bool) (x y : List ℕ) (texts : List (List ℕ)) → text_cmp x y ≡ Less → IsBelowAll x texts → IsBelowAll x (cond r (y ∷ texts) texts)
-IsBelowAll-kept true x y texts h b = (h, b)
-IsBelowAll-kept false x y texts h b = b
+IsTextBelowAll-kept : (r : Bool) (x y : List ℕ) (texts : List (List ℕ)) → text_cmp x y ≡ Less → IsTextBelowAll x texts → IsTextBelowAll x (cond r (y ∷ texts) texts)
+IsTextBelowAll-kept true x y texts h b = (h, b)
+IsTextBelowAll-kept false x y texts h b = b
 
-IsBelowAll-filter : (p : List ℕ → Bool) (x : List ℕ) (texts : List (List ℕ)) → IsBelowAll x texts → IsBelowAll x (filter p texts)
-IsBelowAll-filter p x [] b = b
-IsBelowAll-filter p x (y ∷ texts) b = IsBelowAll-kept (p y) x y (filter p texts) b.0 (IsBelowAll-filter p x texts b.1)
+IsTextBelowAll-filter : (p : List ℕ → Bool) (x : List ℕ) (texts : List (List ℕ)) → IsTextBelowAll x texts → IsTextBelowAll x (filter p texts)
+IsTextBelowAll-filter p x [] b = b
+IsTextBelowAll-filter p x (y ∷ texts) b = IsTextBelowAll-kept (p y) x y (filter p texts) b.0 (IsTextBelowAll-filter p x texts b.1)
 
-IsAscending-kept : (r : Bool) (x : List ℕ) (texts : List (List ℕ)) → IsBelowAll x texts → IsAscending texts → IsAscending (cond r (x ∷ texts) texts)
+IsAscending-kept : (r : Bool) (x : List ℕ) (texts : List (List ℕ)) → IsTextBelowAll x texts → IsAscending texts → IsAscending (cond r (x ∷ texts) texts)
 IsAscending-kept true x texts b a = (b, a)
 IsAscending-kept false x texts b a = a
 
 pub IsAscending-filter : (p : List ℕ → Bool) (texts : List (List ℕ)) → IsAscending texts → IsAscending (filter p texts)
 IsAscending-filter p [] a = a
-IsAscending-filter p (x ∷ texts) a = IsAscending-kept (p x) x (filter p texts) (IsBelowAll-filter p x texts a.0) (IsAscending-filter p texts a.1)
+IsAscending-filter p (x ∷ texts) a = IsAscending-kept (p x) x (filter p texts) (IsTextBelowAll-filter p x texts a.0) (IsAscending-filter p texts a.1)
 
 pub is_listed-filter : (p : List ℕ → Bool) (texts : List (List ℕ)) (t : List ℕ) → is_listed (filter p texts) t ≡ (is_listed texts t && p t)
 is_listed-filter p [] t = refl

@@ -5,8 +5,8 @@ use Rattle.std.proofs.lemmas.List.{append-nil}
 use Rattle.std.proofs.lemmas.Bool.{and_left, and_right}
 use Rattle.std.proofs.lemmas.Int.{ints, by_lt_z}
 use Rattle.cue_sets.specs.Pieces.{is_member, least, greatest, AscendsFrom, IsCanonical}
-use Rattle.cue_sets.specs.Inner.Combination.{keeps}
-use Rattle.cue_sets.specs.Inner.Sweep.{EndsFrom, opened, closed}
+use Rattle.cue_sets.specs.Inner.Combination.{combination_keeps}
+use Rattle.cue_sets.specs.Inner.Sweep.{EndsFrom, open_piece, close_piece}
 use Rattle.cue_sets.specs.declared.combination.Combination.{Combination}
 use Rattle.cue_sets.specs.declared.combination.Combination.TheVariants.{Meet, Union, Without}
 use Rattle.cue_sets.proofs.Steps.{IsStep, to_greatest, le_le}
@@ -60,12 +60,12 @@ wanted_left_out from last wanted h w n =
 le_before : (from n : ℤ) → int_le n (from -ℤ pos 1) ≡ int_lt n from
 le_before from n = by_lt_z n from (λ h. le_true n (from -ℤ pos 1) (omega (arith, ints)) ∙ sym (lt_true n from h)) (λ h. le_false n (from -ℤ pos 1) (omega (arith, ints)) ∙ sym (lt_false n from h))
 
-members_left_out : (made : List (ℤ × ℤ)) (begun : Option ℤ) (from : ℤ) (n : ℤ) → (is_member (made ++ closed begun from false) n || false) ≡ (is_member made n || is_begun begun from n)
+members_left_out : (made : List (ℤ × ℤ)) (begun : Option ℤ) (from : ℤ) (n : ℤ) → (is_member (made ++ close_piece begun from false) n || false) ≡ (is_member made n || is_begun begun from n)
 members_left_out made None from n = rw (append-nil made) refl
 members_left_out made (Some first) from n =
     or_false _ ∙ is_member-append made _ n ∙ ap (λ b. is_member made n || b) (or_false _ ∙ ap (λ b. int_le first n && b) (le_before from n))
 
-ascending_left_out : (made : List (ℤ × ℤ)) (begun : Option ℤ) (from last : ℤ) (wanted : ℤ → Bool) → from ≤ℤ last → last ≤ℤ greatest → IsSwept made begun from wanted → (later : List (ℤ × ℤ)) → AscendsFrom (last +ℤ pos 1) later → IsCanonical ((made ++ closed begun from false) ++ later)
+ascending_left_out : (made : List (ℤ × ℤ)) (begun : Option ℤ) (from last : ℤ) (wanted : ℤ → Bool) → from ≤ℤ last → last ≤ℤ greatest → IsSwept made begun from wanted → (later : List (ℤ × ℤ)) → AscendsFrom (last +ℤ pos 1) later → IsCanonical ((made ++ close_piece begun from false) ++ later)
 ascending_left_out made None from last wanted h top s later a =
     subst (λ xs. IsCanonical (xs ++ later)) (sym (append-nil made)) (s.ascending later (AscendsFrom-lower from (last +ℤ pos 1) later (omega (arith, ints)) a))
 ascending_left_out made (Some first) from last wanted h top s later a =
@@ -74,7 +74,7 @@ ascending_left_out made (Some first) from last wanted h top s later a =
     (s.ascending ((first, from -ℤ pos 1) ∷ later) (omega (arith, ints), omega (arith, ints), omega (arith, ints), AscendsFrom-lower ((from -ℤ pos 1) +ℤ pos 2) (last +ℤ pos 1) later (omega (arith, ints)) a))
 
 -- one step of the sweep: the numbers from `from` to `last` are all wanted or all left out
-pub IsSwept-more : (made : List (ℤ × ℤ)) (begun : Option ℤ) (from last : ℤ) (kept : Bool) (wanted : ℤ → Bool) → from ≤ℤ last → last ≤ℤ greatest → IsSwept made begun from wanted → ((n : ℤ) → from ≤ℤ n → n ≤ℤ last → wanted n ≡ kept) → IsSwept (made ++ closed begun from kept) (opened begun from kept) (last +ℤ pos 1) wanted
+pub IsSwept-more : (made : List (ℤ × ℤ)) (begun : Option ℤ) (from last : ℤ) (kept : Bool) (wanted : ℤ → Bool) → from ≤ℤ last → last ≤ℤ greatest → IsSwept made begun from wanted → ((n : ℤ) → from ≤ℤ n → n ≤ℤ last → wanted n ≡ kept) → IsSwept (made ++ close_piece begun from kept) (open_piece begun from kept) (last +ℤ pos 1) wanted
 IsSwept-more made begun from last true wanted h top s w = record {
   ascending = λ later a. subst (λ xs. IsCanonical (xs ++ later)) (sym (append-nil made)) (s.ascending later a);
   members = λ n. subst (λ xs. (is_member xs n || is_begun (Some (unwrap_or begun from)) (last +ℤ pos 1) n) ≡ (int_lt n (last +ℤ pos 1) && wanted n)) (sym (append-nil made)) (members_kept made begun from last wanted h s w n);
@@ -98,13 +98,13 @@ IsSwept-none wanted w = record {
 }
 
 -- all is swept: the piece that is being made ends at the greatest integer
-pub IsSwept-all : (made : List (ℤ × ℤ)) (begun : Option ℤ) (wanted : ℤ → Bool) → ((n : ℤ) → greatest <ℤ n → wanted n ≡ false) → IsSwept made begun (greatest +ℤ pos 1) wanted → IsCanonical (made ++ closed begun (greatest +ℤ pos 1) false) × ((n : ℤ) → is_member (made ++ closed begun (greatest +ℤ pos 1) false) n ≡ wanted n)
+pub IsSwept-all : (made : List (ℤ × ℤ)) (begun : Option ℤ) (wanted : ℤ → Bool) → ((n : ℤ) → greatest <ℤ n → wanted n ≡ false) → IsSwept made begun (greatest +ℤ pos 1) wanted → IsCanonical (made ++ close_piece begun (greatest +ℤ pos 1) false) × ((n : ℤ) → is_member (made ++ close_piece begun (greatest +ℤ pos 1) false) n ≡ wanted n)
 IsSwept-all made begun wanted w s = (
-  s.ascending (closed begun (greatest +ℤ pos 1) false) (ascends begun s.before),
+  s.ascending (close_piece begun (greatest +ℤ pos 1) false) (ascends begun s.before),
   λ n. sym (or_false _) ∙ members_left_out made begun (greatest +ℤ pos 1) n ∙ s.members n ∙ by_lt_z greatest n (λ h. and_right _ _ (w n h) ∙ sym (w n h)) (λ h. ap (λ b. b && wanted n) (lt_true n (greatest +ℤ pos 1) (omega (arith, ints)))),
 )
   where
-    ascends : (begun : Option ℤ) → IfSome begun (λ first. first <ℤ (greatest +ℤ pos 1)) → AscendsFrom (unwrap_or begun (greatest +ℤ pos 1)) (closed begun (greatest +ℤ pos 1) false)
+    ascends : (begun : Option ℤ) → IfSome begun (λ first. first <ℤ (greatest +ℤ pos 1)) → AscendsFrom (unwrap_or begun (greatest +ℤ pos 1)) (close_piece begun (greatest +ℤ pos 1) false)
     ascends None b = tt
     ascends (Some first) b = (omega (arith, ints), omega (arith, ints), omega (arith, ints), tt)
 
@@ -116,7 +116,7 @@ pub record IsAhead (from : ℤ) (pieces rest : List (ℤ × ℤ)) : Type 0 where
 
 -- whether a number is a member of a combination of two sets
 abbrev pub wanted_of : Combination → List (ℤ × ℤ) → List (ℤ × ℤ) → ℤ → Bool
-wanted_of how left right n = keeps how (is_member left n) (is_member right n)
+wanted_of how left right n = combination_keeps how (is_member left n) (is_member right n)
 
 -- a combination of two sets, swept up to `from`
 pub record IsCombined (how : Combination) (left right made : List (ℤ × ℤ)) (begun : Option ℤ) (from : ℤ) (on_left on_right : List (ℤ × ℤ)) : Type 0 where
@@ -124,7 +124,7 @@ pub record IsCombined (how : Combination) (left right made : List (ℤ × ℤ)) 
   pub ahead_left : IsAhead from left on_left
   pub ahead_right : IsAhead from right on_right
 
-keeps_none : (how : Combination) → keeps how false false ≡ false
+keeps_none : (how : Combination) → combination_keeps how false false ≡ false
 keeps_none Meet = refl
 keeps_none Union = refl
 keeps_none Without = refl
@@ -154,7 +154,7 @@ pub IsSwept-both :
     → IsCombined how left right made begun from on_left on_right → IsStep from left_last right_last last
     → ((n : ℤ) → from ≤ℤ n → n ≤ℤ left_last → is_member on_left n ≡ in_left)
     → ((n : ℤ) → from ≤ℤ n → n ≤ℤ right_last → is_member on_right n ≡ in_right)
-    → kept ≡ keeps how in_left in_right → begun' ≡ opened begun from kept → made' ≡ made ++ closed begun from kept → next ≡ last +ℤ pos 1
+    → kept ≡ combination_keeps how in_left in_right → begun' ≡ open_piece begun from kept → made' ≡ made ++ close_piece begun from kept → next ≡ last +ℤ pos 1
     → IsSwept made' begun' next (wanted_of how left right)
 IsSwept-both how left right made begun from on_left on_right left_last right_last last in_left in_right kept made' begun' next s step l r k b m e =
     rw (m, b, e) (IsSwept-more made begun from last kept (wanted_of how left right) step.forward (to_greatest last step.fits) s.swept
@@ -169,14 +169,14 @@ abbrev pub ending : Option ℤ → List (ℤ × ℤ)
 ending None = []
 ending (Some first) = (first, greatest) ∷ []
 
-closed-ending : (begun : Option ℤ) → closed begun (greatest +ℤ pos 1) false ≡ ending begun
-closed-ending None = refl
-closed-ending (Some first) = refl
+close_piece-ending : (begun : Option ℤ) → close_piece begun (greatest +ℤ pos 1) false ≡ ending begun
+close_piece-ending None = refl
+close_piece-ending (Some first) = refl
 
 -- after the last number the pieces that were made have the members of the combination
 pub IsCombined-all : (how : Combination) (left right made : List (ℤ × ℤ)) (begun : Option ℤ) (final : List (ℤ × ℤ)) → IsCanonical left → IsCanonical right → IsSwept made begun (greatest +ℤ pos 1) (wanted_of how left right) → final ≡ made ++ ending begun → IsCanonical final × ((n : ℤ) → is_member final n ≡ wanted_of how left right n)
 IsCombined-all how left right made begun final l r s e =
-    subst (λ pieces. IsCanonical pieces × ((n : ℤ) → is_member pieces n ≡ wanted_of how left right n)) (ap (λ later. made ++ later) (closed-ending begun) ∙ sym e)
+    subst (λ pieces. IsCanonical pieces × ((n : ℤ) → is_member pieces n ≡ wanted_of how left right n)) (ap (λ later. made ++ later) (close_piece-ending begun) ∙ sym e)
     (IsSwept-all made begun (wanted_of how left right) (λ n h. wanted-outside how left right n (is_member-above least left n l h) (is_member-above least right n r h)) s)
 
 -- what ends at a number or later ends at each lower number or later

@@ -8,7 +8,7 @@ use Rattle.std.specs.Ordering.{ordering_index}
 use Rattle.std.specs.declared.cmp.Ordering.{Ordering}
 use Rattle.std.specs.declared.cmp.Ordering.TheVariants.{Less, Equal, Greater}
 use Rattle.std.specs.List.Sorted.{IsNonDecreasingBy, IsBinarySearchResult, IsSearchInRange}
-use Rattle.cue_sets.specs.Texts.{is_listed, text_cmp, IsBelowAll, IsAscending}
+use Rattle.cue_sets.specs.Texts.{is_listed, text_cmp, IsTextBelowAll, IsAscending}
 use Rattle.cue_sets.specs.TextLaws.{same_from_equal, bytes_eq-itself, bytes_eq-less, bytes_eq-greater, reverse_cmp}
 
 -- how a text of the list compares with the one that is searched, as a number
@@ -41,7 +41,7 @@ first_place x text y h Greater e =
     rw (reverse_cmp text y Less f) (omega arith)
 
 -- a text below all of a list is below the one at each place
-pub at_or_below : (x : List ℕ) (texts : List (List ℕ)) (k : ℕ) (d : List ℕ) → IsBelowAll x texts → k < length texts → text_cmp x (get_or texts k d) ≡ Less
+pub at_or_below : (x : List ℕ) (texts : List (List ℕ)) (k : ℕ) (d : List ℕ) → IsTextBelowAll x texts → k < length texts → text_cmp x (get_or texts k d) ≡ Less
 at_or_below x [] k d b l = absurd (omega arith)
 at_or_below x (y ∷ texts) zero d b l = b.0
 at_or_below x (y ∷ texts) (suc k) d b l = at_or_below x texts k d b.1 (omega arith)

@@ -11,7 +11,7 @@ use Rattle.cue_sets.specs.Pieces.{is_within, is_member, least, greatest, Ascends
 use Rattle.cue_sets.specs.PieceLaws.{is_within-above, is_within-below, is_within-inside, is_member-append, AscendsFrom-lower}
 use Rattle.cue_sets.specs.Inner.Sorted.{IsPiece}
 
--- the pieces begin at `start` or later, and none begins before the one before it
+-- the pieces begin at `start_sets` or later, and none begins before the one before it
 abbrev pub RisesFrom : ℤ → List (ℤ × ℤ) → Type 0
 RisesFrom start [] = Unit {0}
 RisesFrom start (piece ∷ pieces) = (start ≤ℤ piece.0) × IsPiece piece × RisesFrom piece.0 pieces

@@ -6,8 +6,8 @@ use Rattle.std.specs.declared.cmp.Ordering.{Ordering}
 use Rattle.std.specs.declared.cmp.Ordering.TheVariants.{Less, Equal, Greater}
 use Rattle.std.proofs.lemmas.Bool.{false≢true}
 use Rattle.std.proofs.lemmas.Slice.Eq.{bytes_eq-Decides}
-use Rattle.cue_sets.specs.Texts.{is_listed, flipped, is_text_member, text_cmp, IsAscending}
-use Rattle.cue_sets.specs.Inner.Merge.{prepended_if, merged_at, merged}
+use Rattle.cue_sets.specs.Texts.{is_listed, is_member_if, is_text_member, text_cmp, IsAscending}
+use Rattle.cue_sets.specs.Inner.Merge.{prepended_if, merged_at, merge_texts}
 use Rattle.cue_sets.specs.TextLaws.{greatest_length, zeros, is_listed-zeros, first_is_listed}
 use Rattle.cue_sets.proofs.Merged.{is_listed-merged}
 use Rattle.cue_sets.proofs.TextSearch.{listed_at}
@@ -44,11 +44,11 @@ unlike true false h e = false≢true (sym e)
 unlike false true h e = false≢true e
 unlike false false h e = false≢true h
 
-flip_not : (all_but listed : Bool) → listed ≡ not all_but → flipped all_but listed ≡ true
+flip_not : (all_but listed : Bool) → listed ≡ not all_but → is_member_if all_but listed ≡ true
 flip_not false listed e = e
 flip_not true listed e = ap not e
 
-not_flip : (all_but listed : Bool) → flipped all_but listed ≡ true → listed ≡ not all_but
+not_flip : (all_but listed : Bool) → is_member_if all_but listed ≡ true → listed ≡ not all_but
 not_flip false listed e = e
 not_flip true true e = sym e
 not_flip true false e = refl
@@ -120,7 +120,7 @@ is_wanted true true in_others h = rw (h refl) refl
 is_wanted false true in_others h = rw (h refl) refl
 
 -- no text is amiss
-pub none_amiss : (texts others : List (List ℕ)) (wanted : Bool) → IsAscending texts → IsAscending others → merged (is_amiss wanted) texts others ≡ [] → EachIsListed texts others wanted
+pub none_amiss : (texts others : List (List ℕ)) (wanted : Bool) → IsAscending texts → IsAscending others → merge_texts (is_amiss wanted) texts others ≡ [] → EachIsListed texts others wanted
 none_amiss texts others wanted a b e text listed =
     not_amiss wanted (is_listed others text)
     (ap (λ r. is_amiss wanted r (is_listed others text)) (sym listed)
@@ -128,7 +128,7 @@ none_amiss texts others wanted a b e text listed =
     ∙ ap (λ ts. is_listed ts text) e)
 
 -- no text is amiss where none is left of the first list
-pub none_left : (wanted : Bool) (xs ys : List (List ℕ)) → length xs < 1 → merged (is_amiss wanted) xs ys ≡ []
+pub none_left : (wanted : Bool) (xs ys : List (List ℕ)) → length xs < 1 → merge_texts (is_amiss wanted) xs ys ≡ []
 none_left wanted [] [] h = refl
 none_left wanted [] (y ∷ ys) h = none_left wanted [] ys h
 none_left wanted (x ∷ xs) ys h = absurd (omega arith)
@@ -139,22 +139,22 @@ Stands order x [] = order ≡ Less
 Stands order x (y ∷ ys) = order ≡ text_cmp x y
 
 -- a text that comes next and is amiss
-pub amiss_next : (wanted : Bool) (x : List ℕ) (xs ys : List (List ℕ)) (order : Ordering) → Stands order x ys → is_le order ≡ true → not (beq (is_eq order) wanted) ≡ true → is_listed (merged (is_amiss wanted) (x ∷ xs) ys) x ≡ true
+pub amiss_next : (wanted : Bool) (x : List ℕ) (xs ys : List (List ℕ)) (order : Ordering) → Stands order x ys → is_le order ≡ true → not (beq (is_eq order) wanted) ≡ true → is_listed (merge_texts (is_amiss wanted) (x ∷ xs) ys) x ≡ true
 amiss_next wanted x xs ys order s l e = from ys s where
   kept : (b : Bool) (zs : List (List ℕ)) → b ≡ true → is_listed (prepended_if b x zs) x ≡ true
   kept b zs e = ap (λ b. is_listed (prepended_if b x zs) x) e ∙ first_is_listed x zs
 
-  at : (o : Ordering) (y : List ℕ) (ys later : List (List ℕ)) → is_le o ≡ true → not (beq (is_eq o) wanted) ≡ true → is_listed (merged_at (is_amiss wanted) x (merged (is_amiss wanted) xs) o y ys later) x ≡ true
+  at : (o : Ordering) (y : List ℕ) (ys later : List (List ℕ)) → is_le o ≡ true → not (beq (is_eq o) wanted) ≡ true → is_listed (merged_at (is_amiss wanted) x (merge_texts (is_amiss wanted) xs) o y ys later) x ≡ true
   at Less y ys later l e = kept (is_amiss wanted true false) _ e
   at Equal y ys later l e = kept (is_amiss wanted true true) _ e
   at Greater y ys later l e = absurd (false≢true l)
 
-  from : (ys : List (List ℕ)) → Stands order x ys → is_listed (merged (is_amiss wanted) (x ∷ xs) ys) x ≡ true
+  from : (ys : List (List ℕ)) → Stands order x ys → is_listed (merge_texts (is_amiss wanted) (x ∷ xs) ys) x ≡ true
   from [] s = kept (is_amiss wanted true false) _ (subst (λ o. not (beq (is_eq o) wanted) ≡ true) s e)
-  from (y ∷ ys) s = ap (λ o. is_listed (merged_at (is_amiss wanted) x (merged (is_amiss wanted) xs) o y ys (merged (is_amiss wanted) (x ∷ xs) ys)) x) (sym s) ∙ at order y ys _ l e
+  from (y ∷ ys) s = ap (λ o. is_listed (merged_at (is_amiss wanted) x (merge_texts (is_amiss wanted) xs) o y ys (merge_texts (is_amiss wanted) (x ∷ xs) ys)) x) (sym s) ∙ at order y ys _ l e
 
 -- some text is amiss
-pub some_amiss : (texts others : List (List ℕ)) (wanted : Bool) (text : List ℕ) → IsAscending texts → IsAscending others → is_listed (merged (is_amiss wanted) texts others) text ≡ true → EachIsListed texts others wanted → ⊥
+pub some_amiss : (texts others : List (List ℕ)) (wanted : Bool) (text : List ℕ) → IsAscending texts → IsAscending others → is_listed (merge_texts (is_amiss wanted) texts others) text ≡ true → EachIsListed texts others wanted → ⊥
 some_amiss texts others wanted text a b e h =
     false≢true
     (sym (is_wanted wanted (is_listed texts text) (is_listed others text) (h text))

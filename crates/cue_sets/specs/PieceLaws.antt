@@ -8,7 +8,7 @@ use Rattle.std.proofs.lemmas.Int.{ints, by_lt_z}
 use Rattle.cue_lattice.specs.Bools.{bool_same}
 use Rattle.cue_lattice.specs.Scalar.{IsInteger}
 use Rattle.cue_sets.specs.Pieces.{is_within, is_member, least, greatest, AscendsFrom, IsCanonical}
-use Rattle.cue_sets.specs.Pieces.{Refuses, IsFirstMember, IsOnlyMember}
+use Rattle.cue_sets.specs.Pieces.{RefusesInteger, IsFirstMember, IsOnlyMember}
 
 pub lt_true : (a b : ℤ) → a <ℤ b → int_lt a b ≡ true
 lt_true a b h = grind (arith, ints)
@@ -90,16 +90,16 @@ gap_after : (piece : ℤ × ℤ) (pieces : List (ℤ × ℤ)) (n : ℤ) → Asce
 gap_after piece pieces n a h k =
     rw (is_within-above piece n h) (is_member-below (piece.1 +ℤ pos 2) pieces n a k)
 
-clash : (xs ys : List (ℤ × ℤ)) (n : ℤ) → ((n : ℤ) → is_member xs n ≡ is_member ys n)
+unequal_members : (xs ys : List (ℤ × ℤ)) (n : ℤ) → ((n : ℤ) → is_member xs n ≡ is_member ys n)
     → is_member xs n ≡ true → is_member ys n ≡ false → ⊥
-clash xs ys n e t f = false≢true (sym f ∙ sym (e n) ∙ t)
+unequal_members xs ys n e t f = false≢true (sym f ∙ sym (e n) ∙ t)
 
 -- the last numbers of the first pieces: the first list's does not lie below the other's
 not_shorter : (p q : ℤ × ℤ) (ps qs : List (ℤ × ℤ)) → p.0 ≡ q.0 → p.0 ≤ℤ p.1
     → AscendsFrom (p.1 +ℤ pos 2) ps → ((n : ℤ) → is_member (p ∷ ps) n ≡ is_member (q ∷ qs) n)
     → p.1 <ℤ q.1 → ⊥
 not_shorter p q ps qs same h a e k =
-    clash (q ∷ qs) (p ∷ ps) (p.1 +ℤ pos 1) (λ n. sym (e n))
+    unequal_members (q ∷ qs) (p ∷ ps) (p.1 +ℤ pos 1) (λ n. sym (e n))
     (rw (is_within-inside q (p.1 +ℤ pos 1) (omega (arith, ints)) (omega (arith, ints))) refl)
     (gap_after p ps (p.1 +ℤ pos 1) a (omega (arith, ints)) (omega (arith, ints)))
 
@@ -108,7 +108,7 @@ not_earlier : (p q : ℤ × ℤ) (ps qs : List (ℤ × ℤ)) (start : ℤ) → p
     → AscendsFrom start (q ∷ qs) → ((n : ℤ) → is_member (p ∷ ps) n ≡ is_member (q ∷ qs) n)
     → p.0 <ℤ q.0 → ⊥
 not_earlier p q ps qs start h a e k =
-    clash (p ∷ ps) (q ∷ qs) p.0 e (first_member p ps h)
+    unequal_members (p ∷ ps) (q ∷ qs) p.0 e (first_member p ps h)
     (is_member-below q.0 (q ∷ qs) p.0 (omega (arith, ints), a.1, a.2, a.3) k)
 
 not_below_same : (x y : ℤ) → (x <ℤ y → ⊥) → (y <ℤ x → ⊥) → x ≡ y
@@ -159,7 +159,7 @@ outside_same xs ys n a b e =
 
 -- sets that refuse the same numbers are equal
 pub same_pieces : (xs ys : List (ℤ × ℤ)) → IsCanonical xs → IsCanonical ys
-    → ((n : ℤ) → Refuses xs n ↔ Refuses ys n) → xs ≡ ys
+    → ((n : ℤ) → RefusesInteger xs n ↔ RefusesInteger ys n) → xs ≡ ys
 same_pieces xs ys a b e =
     same_from_members least least xs ys a b
     (λ n. outside_same xs ys n a b
@@ -168,15 +168,15 @@ same_pieces xs ys a b e =
 abbrev full_pieces : List (ℤ × ℤ)
 full_pieces = (least, greatest) ∷ []
 
-full_refuses_none : (n : ℤ) → Refuses full_pieces n → ⊥
+full_refuses_none : (n : ℤ) → RefusesInteger full_pieces n → ⊥
 full_refuses_none n r =
     false≢true (sym r.1 ∙ rw (is_within-inside (least, greatest) n r.0.0 r.0.1) refl)
 
 -- the set of all integers is the one that refuses nothing
 pub free_is_full : (pieces : List (ℤ × ℤ)) → IsCanonical pieces
-    → (pieces ≡ (least, greatest) ∷ []) ↔ ((n : ℤ) → ¬ Refuses pieces n)
+    → (pieces ≡ (least, greatest) ∷ []) ↔ ((n : ℤ) → ¬ RefusesInteger pieces n)
 free_is_full pieces a = (
-  λ e. subst (λ xs. (n : ℤ) → Refuses xs n → ⊥) (sym e) full_refuses_none,
+  λ e. subst (λ xs. (n : ℤ) → RefusesInteger xs n → ⊥) (sym e) full_refuses_none,
   λ h. same_pieces pieces full_pieces a
       (omega (arith, ints), omega (arith, ints), omega (arith, ints), tt)
       (λ n. (λ r. absurd (h n r), λ r. absurd (full_refuses_none n r))),

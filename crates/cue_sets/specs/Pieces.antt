@@ -13,7 +13,7 @@ abbrev pub is_member : List (ℤ × ℤ) → ℤ → Bool
 is_member [] n = false
 is_member (piece ∷ pieces) n = is_within piece n || is_member pieces n
 
--- The pieces begin at `start` or later, ascend, and stay at or below the greatest integer. None is
+-- The pieces begin at `start_sets` or later, ascend, and stay at or below the greatest integer. None is
 -- empty, and between two neighbours at least one number is left out.
 abbrev pub AscendsFrom : ℤ → List (ℤ × ℤ) → Type 0
 AscendsFrom start [] = Unit {0}
@@ -31,8 +31,8 @@ is_int64 n = is_within (least, greatest) n
 
 -- A set of integers refuses the integers of 64 bits that are no members. It refuses no other
 -- number.
-abbrev pub Refuses : List (ℤ × ℤ) → ℤ → Type 0
-Refuses pieces n = IsInteger n × (is_member pieces n ≡ false)
+abbrev pub RefusesInteger : List (ℤ × ℤ) → ℤ → Type 0
+RefusesInteger pieces n = IsInteger n × (is_member pieces n ≡ false)
 
 -- n is in the set, and no other number is
 pub record IsOnlyMember (pieces : List (ℤ × ℤ)) (n : ℤ) : Type 0 where

@@ -12,7 +12,7 @@ use Rattle.std.proofs.lemmas.Cmp.{nat_list_cmp_total}
 use Rattle.std.proofs.lemmas.Map.Text.{is_eq-slice_cmp}
 use Rattle.std.proofs.lemmas.Slice.Eq.{bytes_eq-Decides}
 use Rattle.cue_lattice.specs.Bools.{bool_same}
-use Rattle.cue_sets.specs.Texts.{is_listed, is_text_member, text_cmp, IsBelowAll, IsAscending}
+use Rattle.cue_sets.specs.Texts.{is_listed, is_text_member, text_cmp, IsTextBelowAll, IsAscending}
 use Rattle.cue_sets.specs.Texts.{IsTextSet, RefusesText, IsOnlyText}
 
 pub reverse_cmp : (x y : List ℕ) (o : Ordering) → text_cmp x y ≡ o
@@ -32,26 +32,26 @@ bytes_eq-less x y h = sym (is_eq-slice_cmp x y) ∙ ap is_eq h
 pub bytes_eq-greater : (x y : List ℕ) → text_cmp y x ≡ Less → bytes_eq x y ≡ false
 bytes_eq-greater x y h = sym (is_eq-slice_cmp x y) ∙ ap is_eq (reverse_cmp y x Less h)
 
-pub is_listed-below : (x : List ℕ) (xs : List (List ℕ)) → IsBelowAll x xs → is_listed xs x ≡ false
+pub is_listed-below : (x : List ℕ) (xs : List (List ℕ)) → IsTextBelowAll x xs → is_listed xs x ≡ false
 is_listed-below x [] b = refl
 is_listed-below x (y ∷ ys) b = rw (bytes_eq-greater y x b.0) (is_listed-below x ys b.1)
 
-pub IsBelowAll-lower : (x y : List ℕ) (ys : List (List ℕ)) → text_cmp x y ≡ Less → IsBelowAll y ys
-    → IsBelowAll x ys
-IsBelowAll-lower x y [] h b = tt
-IsBelowAll-lower x y (z ∷ zs) h b =
-    (nat_list_cmp_total.trans x y z h b.0, IsBelowAll-lower x y zs h b.1)
+pub IsTextBelowAll-lower : (x y : List ℕ) (ys : List (List ℕ)) → text_cmp x y ≡ Less → IsTextBelowAll y ys
+    → IsTextBelowAll x ys
+IsTextBelowAll-lower x y [] h b = tt
+IsTextBelowAll-lower x y (z ∷ zs) h b =
+    (nat_list_cmp_total.trans x y z h b.0, IsTextBelowAll-lower x y zs h b.1)
 
 -- no text below the first is listed
 pub is_listed-before_first : (x y : List ℕ) (ys : List (List ℕ)) → text_cmp x y ≡ Less
-    → IsBelowAll y ys → is_listed (y ∷ ys) x ≡ false
-is_listed-before_first x y ys h b = is_listed-below x (y ∷ ys) (h, IsBelowAll-lower x y ys h b)
+    → IsTextBelowAll y ys → is_listed (y ∷ ys) x ≡ false
+is_listed-before_first x y ys h b = is_listed-below x (y ∷ ys) (h, IsTextBelowAll-lower x y ys h b)
 
 pub first_is_listed : (x : List ℕ) (xs : List (List ℕ)) → is_listed (x ∷ xs) x ≡ true
 first_is_listed x xs = rw (bytes_eq-itself x) refl
 
 -- ---- ascending lists of the same texts are equal
-rest_listed : (x t : List ℕ) (xs ys : List (List ℕ)) → IsBelowAll x xs → IsBelowAll x ys
+rest_listed : (x t : List ℕ) (xs ys : List (List ℕ)) → IsTextBelowAll x xs → IsTextBelowAll x ys
     → is_listed (x ∷ xs) t ≡ is_listed (x ∷ ys) t → is_listed xs t ≡ is_listed ys t
 rest_listed x t xs ys a b e = cases (bytes_eq x t) refl e where
   cases : (r : Bool) → bytes_eq x t ≡ r → (r || is_listed xs t) ≡ (r || is_listed ys t)
@@ -82,8 +82,8 @@ same_from_listed (x ∷ xs) (y ∷ ys) a b e =
           ∙ first_is_listed y ys))
       cases ih Equal h =
           let heads = same_from_equal x y h in
-          let b' : IsBelowAll x ys × IsAscending ys =
-          subst (λ z. IsBelowAll z ys × IsAscending ys) (sym heads) b in
+          let b' : IsTextBelowAll x ys × IsAscending ys =
+          subst (λ z. IsTextBelowAll z ys × IsAscending ys) (sym heads) b in
           let e' : (t : List ℕ) → is_listed (x ∷ xs) t ≡ is_listed (x ∷ ys) t =
           λ t. e t ∙ ap (λ z. is_listed (z ∷ ys) t) (sym heads) in
           let rests = ih b'.1 (λ t. rest_listed x t xs ys a.0 b'.0 (e' t)) in
@@ -118,8 +118,8 @@ not_same false true e = sym e
 not_same false false e = refl
 
 -- a text that neither set lists
-apart : (xs ys : List (List ℕ)) → ((t : List ℕ) → is_listed xs t ≡ not (is_listed ys t)) → ⊥
-apart xs ys e =
+unlisted_text : (xs ys : List (List ℕ)) → ((t : List ℕ) → is_listed xs t ≡ not (is_listed ys t)) → ⊥
+unlisted_text xs ys e =
     let n : ℕ = greatest_length xs + greatest_length ys + 1 in
     false≢true
     (sym (is_listed-zeros xs n (omega arith)) ∙ e (zeros n)
@@ -131,8 +131,8 @@ same_from_text_members (false, xs) (false, ys) a b e =
     ap (λ zs. (false, zs)) (same_from_listed xs ys a b e)
 same_from_text_members (true, xs) (true, ys) a b e =
     ap (λ zs. (true, zs)) (same_from_listed xs ys a b (λ t. not_same _ _ (e t)))
-same_from_text_members (false, xs) (true, ys) a b e = absurd (apart xs ys e)
-same_from_text_members (true, xs) (false, ys) a b e = absurd (apart ys xs (λ t. sym (e t)))
+same_from_text_members (false, xs) (true, ys) a b e = absurd (unlisted_text xs ys e)
+same_from_text_members (true, xs) (false, ys) a b e = absurd (unlisted_text ys xs (λ t. sym (e t)))
 
 -- sets that refuse the same texts are equal
 pub same_texts : (a b : Bool × List (List ℕ)) → IsTextSet a → IsTextSet b

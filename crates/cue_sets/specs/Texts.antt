@@ -14,27 +14,27 @@ is_listed (first ∷ texts) text = bytes_eq first text || is_listed texts text
 
 -- whether a text is a member, by whether it is listed; `all_but` says that all texts are members
 -- but the listed ones
-abbrev pub flipped : Bool → Bool → Bool
-flipped false listed = listed
-flipped true listed = not listed
+abbrev pub is_member_if : Bool → Bool → Bool
+is_member_if false listed = listed
+is_member_if true listed = not listed
 
 -- whether the text is a member of the set
 abbrev pub is_text_member : Bool × List (List ℕ) → List ℕ → Bool
-is_text_member set text = flipped set.0 (is_listed set.1 text)
+is_text_member set text = is_member_if set.0 (is_listed set.1 text)
 
 -- the order of texts, by their bytes
 abbrev pub text_cmp : List ℕ → List ℕ → Ordering
 text_cmp = slice_cmp nat_cmp
 
 -- the text is below each of the list
-abbrev pub IsBelowAll : List ℕ → List (List ℕ) → Type 0
-IsBelowAll text [] = Unit {0}
-IsBelowAll text (next ∷ texts) = (text_cmp text next ≡ Less) × IsBelowAll text texts
+abbrev pub IsTextBelowAll : List ℕ → List (List ℕ) → Type 0
+IsTextBelowAll text [] = Unit {0}
+IsTextBelowAll text (next ∷ texts) = (text_cmp text next ≡ Less) × IsTextBelowAll text texts
 
 -- each text is below all later ones
 abbrev pub IsAscending : List (List ℕ) → Type 0
 IsAscending [] = Unit {0}
-IsAscending (text ∷ texts) = IsBelowAll text texts × IsAscending texts
+IsAscending (text ∷ texts) = IsTextBelowAll text texts × IsAscending texts
 
 -- the one form in which a set of texts is kept
 abbrev pub IsTextSet : Bool × List (List ℕ) → Type 0

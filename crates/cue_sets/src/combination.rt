@@ -1,5 +1,5 @@
 ghost use Rattle.std.specs.Prelude.{◌≡◌};
-ghost use Rattle.cue_sets.specs.Inner.Combination.{keeps};
+ghost use Rattle.cue_sets.specs.Inner.Combination.{combination_keeps};
 
 /// How two sets are combined into one.
 #[derive(Clone, Copy, Debug, PartialEq, Eq)]
@@ -15,7 +15,7 @@ pub(crate) enum Combination {
 impl Combination {
     /// Whether a value is kept that is in the left set, in the right set, in both or in neither.
     pub(crate) fn keeps(self, left: bool, right: bool) -> bool
-        ensures { result ≡ keeps self left right }
+        ensures { result ≡ combination_keeps self left right }
     {
         match self {
             Combination::Meet => left && right,

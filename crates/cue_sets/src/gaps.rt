@@ -2,7 +2,7 @@
 ghost use Rattle.std.specs.Prelude.{◌≡◌, ℤ, pos, ◌-ℤ◌, ◌||◌, OnOk};
 ghost use Rattle.std.specs.List.{All};
 ghost use Rattle.cue_sets.specs.Pieces.{is_member, is_within, IsCanonical};
-ghost use Rattle.cue_sets.specs.Inner.Gaps.{lacks};
+ghost use Rattle.cue_sets.specs.Inner.Gaps.{pieces_lack};
 ghost use Rattle.cue_sets.specs.Inner.Sorted.{IsPiece};
 
 use cue_lattice::Memory;
@@ -27,7 +27,7 @@ pub(crate) fn put_gaps(gaps: &mut Vec<(i64, i64)>, pieces: &[(i64, i64)]) -> Res
     requires pieces { All IsPiece gaps.old.items }
     ensures pieces { OnOk result (All IsPiece gaps.new.items) }
     ensures members { OnOk result ((n : ℤ) → is_member gaps.new.items n
-        ≡ (is_member gaps.old.items n || lacks pieces.now n)) }
+        ≡ (is_member gaps.old.items n || pieces_lack pieces.now n)) }
 {
     let mut from = i64::MIN;
     let mut rest = pieces;

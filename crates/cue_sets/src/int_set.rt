@@ -5,13 +5,13 @@ ghost use Rattle.std.specs.Ordering.{int_eq};
 ghost use Rattle.std.specs.List.{All, list_all, list_any};
 ghost use Rattle.cue_sets.specs.Pieces.{is_member, is_int64, IsCanonical, IsFirstMember};
 ghost use Rattle.cue_sets.specs.Pieces.{IsOnlyMember, least, greatest};
-ghost use Rattle.cue_sets.specs.Inner.Combination.{keeps};
-ghost use Rattle.cue_sets.specs.Inner.Gaps.{lacks};
+ghost use Rattle.cue_sets.specs.Inner.Combination.{combination_keeps};
+ghost use Rattle.cue_sets.specs.Inner.Gaps.{pieces_lack};
 ghost use Rattle.cue_sets.specs.Inner.Sorted.{IsPiece};
 
 use crate::combination::Combination;
 use crate::gaps::put_gaps;
-use crate::kept::Kept;
+use crate::kept::PieceList;
 use crate::pieces::{combine, has, is_before, is_canonical, is_within};
 use crate::uniting::unite;
 use cue_lattice::{Memory, Narrow, Narrowed};
@@ -25,19 +25,19 @@ use std::marker::Model;
 /// integers, one integer or all up to one, takes no memory besides the value itself.
 #[derive(Debug)]
 pub struct IntSet {
-    pieces: Kept,
+    pieces: PieceList,
 }
 
 impl Model for IntSet {
     ghost use Rattle.std.specs.Prelude.{List, ℤ};
-    ghost use Rattle.cue_sets.specs.Kept.{listed};
+    ghost use Rattle.cue_sets.specs.Kept.{pieces_of_set};
     ghost use Rattle.cue_sets.specs.Pieces.{IsCanonical};
 
     ghost Value = { List (ℤ × ℤ) };
 
-    ghost view = { λ set. listed set.pieces };
+    ghost view = { λ set. pieces_of_set set.pieces };
 
-    ghost invariant = { λ set. IsCanonical (listed set.pieces) };
+    ghost invariant = { λ set. IsCanonical (pieces_of_set set.pieces) };
 }
 
 impl IntSet {
@@ -53,7 +53,7 @@ impl IntSet {
         ensures { result ≡ [] }
     {
         IntSet {
-            pieces: Kept::none(alloc),
+            pieces: PieceList::none(alloc),
         }
     }
 
@@ -84,7 +84,7 @@ impl IntSet {
         ensures { result ≡ (first, last) ∷ [] }
     {
         IntSet {
-            pieces: Kept::one(first, last),
+            pieces: PieceList::one(first, last),
         }
     }
 
@@ -101,7 +101,7 @@ impl IntSet {
                 pieces.push((i64::MIN, number - 1))?;
                 pieces.push((number + 1, i64::MAX))?;
                 Ok(IntSet {
-                    pieces: Kept::Many(pieces),
+                    pieces: PieceList::Many(pieces),
                 })
             }
         }
@@ -126,12 +126,15 @@ impl IntSet {
         ensures { IfOk result (λ met. (n : ℤ) →
             is_member met n ≡ (is_member self.now n && is_member other.now n)) }
     {
-        if let (Some(left), Some(right)) = (self.pieces.only(), other.pieces.only()) {
+        if let (Some(left), Some(right)) = (
+            self.pieces.single_piece(),
+            other.pieces.single_piece(),
+        ) {
             return Ok(IntSet {
-                pieces: Kept::common(alloc, left, right),
+                pieces: PieceList::intersect(alloc, left, right),
             });
         }
-        self.combined(alloc, Combination::Meet, other)
+        self.combine_with(alloc, Combination::Meet, other)
     }
 
     /// The members of either set.
@@ -139,7 +142,7 @@ impl IntSet {
         ensures { IfOk result (λ all. (n : ℤ) →
             is_member all n ≡ (is_member self.now n || is_member other.now n)) }
     {
-        self.combined(alloc, Combination::Union, other)
+        self.combine_with(alloc, Combination::Union, other)
     }
 
     /// The members of either set, which are taken over. Where this set ends before the other
@@ -163,7 +166,7 @@ impl IntSet {
         ensures { IfOk result (λ all. (n : ℤ) →
             is_member all n ≡ list_any (λ set. is_member set n) sets.items) }
     {
-        IntSet::united(alloc, IntSet::gathered(alloc, sets.as_slice())?)
+        IntSet::unite_pieces(alloc, IntSet::gather_pieces(alloc, sets.as_slice())?)
     }
 
     /// The members of all of these sets, which are taken over. What each set but the first one
@@ -177,7 +180,7 @@ impl IntSet {
             unreachable!()
         };
         first.known();
-        let left_out = IntSet::united(alloc, IntSet::gaps(alloc, others)?)?;
+        let left_out = IntSet::unite_pieces(alloc, IntSet::gaps(alloc, others)?)?;
         first.without(alloc, &left_out)
     }
 
@@ -186,7 +189,7 @@ impl IntSet {
         ensures { IfOk result (λ rest. (n : ℤ) →
             is_member rest n ≡ (is_member self.now n && not (is_member other.now n))) }
     {
-        self.combined(alloc, Combination::Without, other)
+        self.combine_with(alloc, Combination::Without, other)
     }
 
     /// The only member, where there is one.
@@ -230,7 +233,7 @@ impl IntSet {
             return None;
         }
         Some(IntSet {
-            pieces: Kept::of(pieces),
+            pieces: PieceList::of(pieces),
         })
     }
 
@@ -239,14 +242,17 @@ impl IntSet {
         ensures { IsTrue result ↔ ((n : ℤ) → is_member self.now n ≡ true →
             is_member other.now n ≡ true) }
     {
-        if let (Some(left), Some(right)) = (self.pieces.only(), other.pieces.only()) {
+        if let (Some(left), Some(right)) = (
+            self.pieces.single_piece(),
+            other.pieces.single_piece(),
+        ) {
             return right.0 <= left.0 && left.1 <= right.1;
         }
         is_within(self.pieces.as_slice(), other.pieces.as_slice())
     }
 
     /// The pieces of all these sets, those of one set after those of another.
-    fn gathered(alloc: Global, sets: &[IntSet]) -> Result<Vec<(i64, i64)>, Memory>
+    fn gather_pieces(alloc: Global, sets: &[IntSet]) -> Result<Vec<(i64, i64)>, Memory>
         ensures pieces { IfOk result (λ pieces. All IsPiece pieces.items) }
         ensures members { IfOk result (λ pieces. (n : ℤ) →
             is_member pieces.items n ≡ list_any (λ set. is_member set n) sets.now) }
@@ -262,7 +268,7 @@ impl IntSet {
     fn gaps(alloc: Global, sets: &[IntSet]) -> Result<Vec<(i64, i64)>, Memory>
         ensures pieces { IfOk result (λ gaps. All IsPiece gaps.items) }
         ensures members { IfOk result (λ gaps. (n : ℤ) →
-            is_member gaps.items n ≡ list_any (λ set. lacks set n) sets.now) }
+            is_member gaps.items n ≡ list_any (λ set. pieces_lack set n) sets.now) }
     {
         let mut gaps = Vec::with_capacity(alloc, sets.len())?;
         for set in sets {
@@ -272,23 +278,28 @@ impl IntSet {
     }
 
     /// The numbers that these pieces have. They are sorted, and then walked once.
-    fn united(alloc: Global, mut pieces: Vec<(i64, i64)>) -> Result<IntSet, Memory>
+    fn unite_pieces(alloc: Global, mut pieces: Vec<(i64, i64)>) -> Result<IntSet, Memory>
         requires { All IsPiece pieces.items }
         ensures { IfOk result (λ set. (n : ℤ) → is_member set n ≡ is_member pieces.items n) }
     {
         pieces.sort_unstable_by_key(|piece| piece.0);
         Ok(IntSet {
-            pieces: Kept::of(unite(alloc, pieces.as_slice())?),
+            pieces: PieceList::of(unite(alloc, pieces.as_slice())?),
         })
     }
 
-    fn combined(&self, alloc: Global, how: Combination, other: &IntSet) -> Result<IntSet, Memory>
+    fn combine_with(
+        &self,
+        alloc: Global,
+        how: Combination,
+        other: &IntSet,
+    ) -> Result<IntSet, Memory>
         ensures { IfOk result (λ set. (n : ℤ) →
-            is_member set n ≡ keeps how (is_member self.now n) (is_member other.now n)) }
+            is_member set n ≡ combination_keeps how (is_member self.now n) (is_member other.now n)) }
     {
         let pieces = combine(alloc, how, self.pieces.as_slice(), other.pieces.as_slice())?;
         Ok(IntSet {
-            pieces: Kept::of(pieces),
+            pieces: PieceList::of(pieces),
         })
     }
 
@@ -316,12 +327,12 @@ impl Drop for IntSet {
 /// A set refuses the integers of 64 bits that are no members, and no other number.
 impl Narrow for IntSet {
     ghost use Rattle.std.specs.Prelude.{◌≡◌, ℤ, List, ◌↔◌};
-    ghost use Rattle.cue_sets.specs.Pieces.{Refuses, IsCanonical};
+    ghost use Rattle.cue_sets.specs.Pieces.{RefusesInteger, IsCanonical};
     ghost use Rattle.cue_sets.specs.PieceLaws.{same_pieces};
 
     type Question = i64;
 
-    ghost refuses = { Refuses };
+    ghost refuses = { RefusesInteger };
 
     ghost is_value = { IsCanonical };
 

@@ -2,7 +2,7 @@
 ghost use Rattle.std.specs.Prelude.{◌≡◌, ◌∷◌, ◌++◌, [], length, drop, IfOk, IfSome, IfNone};
 ghost use Rattle.std.specs.Prelude.{IsTrue, OnOk};
 ghost use Rattle.cue_sets.specs.Inner.Apart.{AreApart};
-ghost use Rattle.cue_sets.specs.Inner.Merge.{lists, merged};
+ghost use Rattle.cue_sets.specs.Inner.Merge.{combination_lists, merge_texts};
 ghost use Rattle.cue_sets.specs.Inner.Walk.{left_of, next_if, IsNext};
 ghost use Rattle.cue_sets.specs.Texts.{IsAscending};
 
@@ -14,21 +14,21 @@ use std::collections::VecDeque;
 
 /// What is left of a list of texts that is walked.
 #[derive(Drop)]
-pub(crate) enum Walk<'a> {
+pub(crate) enum MergeWalk<'a> {
     /// The list stays as it is, and its texts are copied.
     Stays(&'a [Text]),
     /// The list is taken over, and its texts are moved.
     Moves(VecDeque<Text>),
 }
 
-impl<'a> Walk<'a> {
+impl<'a> MergeWalk<'a> {
     /// How many texts are left.
     fn len(&self) -> usize
         ensures { result ≡ length (left_of self.now) }
     {
         match self {
-            Walk::Stays(texts) => texts.len(),
-            Walk::Moves(texts) => texts.len(),
+            MergeWalk::Stays(texts) => texts.len(),
+            MergeWalk::Moves(texts) => texts.len(),
         }
     }
 
@@ -39,8 +39,8 @@ impl<'a> Walk<'a> {
         ensures none { IfNone result (left_of self.now ≡ []) }
     {
         match self {
-            Walk::Stays(texts) => texts.first(),
-            Walk::Moves(texts) => texts.front(),
+            MergeWalk::Stays(texts) => texts.first(),
+            MergeWalk::Moves(texts) => texts.front(),
         }
     }
 
@@ -51,7 +51,7 @@ impl<'a> Walk<'a> {
             (texts.new.items ≡ texts.old.items ++ next_if kept (left_of self.old)) }
     {
         match self {
-            Walk::Stays(left) => {
+            MergeWalk::Stays(left) => {
                 let [text, later @ ..] = *left else {
                     return Ok(());
                 };
@@ -60,7 +60,7 @@ impl<'a> Walk<'a> {
                 }
                 *left = later;
             }
-            Walk::Moves(left) => {
+            MergeWalk::Moves(left) => {
                 let Some(text) = left.pop_front() else {
                     return Ok(());
                 };
@@ -76,7 +76,7 @@ impl<'a> Walk<'a> {
 /// How the next text of the left list stands to that of the right one, where one has a text. Behind
 /// all texts is the end of a list.
 #[tactic(auto, using(crate::proofs::Next::next_of_first))]
-fn order(left: &Walk<'_>, right: &Walk<'_>) -> Option<Ordering>
+fn order(left: &MergeWalk<'_>, right: &MergeWalk<'_>) -> Option<Ordering>
     ensures some { IfSome result (λ order. IsNext order (left_of left.now) (left_of right.now)) }
     ensures none { IfNone result ((left_of left.now ≡ []) × (left_of right.now ≡ [])) }
 {
@@ -93,11 +93,11 @@ fn order(left: &Walk<'_>, right: &Walk<'_>) -> Option<Ordering>
 pub(crate) fn merge(
     alloc: Global,
     how: Lists,
-    mut left: Walk<'_>,
-    mut right: Walk<'_>,
+    mut left: MergeWalk<'_>,
+    mut right: MergeWalk<'_>,
 ) -> Result<Vec<Text>, Memory>
     ensures { IfOk result (λ texts.
-        texts.items ≡ merged (lists how.how how.left_all_but how.right_all_but)
+        texts.items ≡ merge_texts (combination_lists how.how how.left_all_but how.right_all_but)
         (left_of left.entry) (left_of right.entry)) }
 {
     let mut texts = Vec::with_capacity(alloc, left.len().saturating_add(right.len()))?;

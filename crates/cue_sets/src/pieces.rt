@@ -1,8 +1,8 @@
 ghost use Rattle.std.specs.Prelude.{◌≡◌, ℤ, pos, ◌-ℤ◌, ◌≤ℤ◌, ◌<ℤ◌, ◌++◌, IfOk, IfSome, Some};
 ghost use Rattle.std.specs.Prelude.{true, ◌↔◌, IsTrue};
-ghost use Rattle.cue_sets.specs.Inner.Combination.{keeps};
+ghost use Rattle.cue_sets.specs.Inner.Combination.{combination_keeps};
 ghost use Rattle.cue_sets.specs.Pieces.{is_member, IsCanonical};
-ghost use Rattle.cue_sets.specs.Inner.Sweep.{EndsFrom, closed, opened};
+ghost use Rattle.cue_sets.specs.Inner.Sweep.{EndsFrom, close_piece, open_piece};
 
 use crate::combination::Combination;
 use cue_lattice::Memory;
@@ -10,7 +10,7 @@ use std::alloc::Global;
 
 /// How far a set goes on as it is at a number.
 #[derive(Clone, Copy)]
-struct Run {
+struct PieceRun {
     /// Whether the number is a member.
     inside: bool,
     /// The last number up to which that stays so.
@@ -18,7 +18,7 @@ struct Run {
 }
 
 /// How the set of these pieces goes on from a number. No piece may end before it.
-fn run_from(rest: &[(i64, i64)], from: i64) -> Run
+fn run_from(rest: &[(i64, i64)], from: i64) -> PieceRun
     requires ascending { IsCanonical rest.now }
     requires ends { EndsFrom from rest.now }
     ensures forward { from ≤ℤ result.last }
@@ -26,15 +26,15 @@ fn run_from(rest: &[(i64, i64)], from: i64) -> Run
     ensures ends { EndsFrom result.last rest.now }
 {
     match rest {
-        [] => Run {
+        [] => PieceRun {
             inside: false,
             last: i64::MAX,
         },
-        [(first, last), ..] if *first <= from => Run {
+        [(first, last), ..] if *first <= from => PieceRun {
             inside: true,
             last: *last,
         },
-        [(first, _), ..] => Run {
+        [(first, _), ..] => PieceRun {
             inside: false,
             last: *first - 1,
         },
@@ -42,7 +42,7 @@ fn run_from(rest: &[(i64, i64)], from: i64) -> Run
 }
 
 /// The pieces that end at a number or later, where at most the first ends right before it.
-fn ahead(rest: &[(i64, i64)], from: i64) -> &[(i64, i64)]
+fn skip_before(rest: &[(i64, i64)], from: i64) -> &[(i64, i64)]
     requires ascending { IsCanonical rest.now }
     requires ends { EndsFrom (from -ℤ pos 1) rest.now }
     ensures ascending { IsCanonical result.now }
@@ -64,8 +64,8 @@ fn go_on(
     kept: bool,
 ) -> Result<Option<i64>, Memory>
     requires { IfSome begun (λ first. first <ℤ from) }
-    ensures { IfOk result (λ next. (next ≡ opened begun from kept)
-        × (pieces.new.items ≡ pieces.old.items ++ closed begun from kept)) }
+    ensures { IfOk result (λ next. (next ≡ open_piece begun from kept)
+        × (pieces.new.items ≡ pieces.old.items ++ close_piece begun from kept)) }
 {
     if kept {
         return Ok(Some(begun.unwrap_or(from)));
@@ -87,7 +87,7 @@ pub(crate) fn combine(
     requires right { IsCanonical right.now }
     ensures canonical { IfOk result (λ pieces. IsCanonical pieces.items) }
     ensures members { IfOk result (λ pieces. (n : ℤ) →
-        is_member pieces.items n ≡ keeps how (is_member left.now n) (is_member right.now n)) }
+        is_member pieces.items n ≡ combination_keeps how (is_member left.now n) (is_member right.now n)) }
 {
     let mut pieces = Vec::with_capacity(alloc, left.len() + right.len())?;
     let mut begun = None;
@@ -101,8 +101,8 @@ pub(crate) fn combine(
             break;
         }
         from = last + 1;
-        on_left = ahead(on_left, from);
-        on_right = ahead(on_right, from);
+        on_left = skip_before(on_left, from);
+        on_right = skip_before(on_right, from);
     }
     if let Some(first) = begun {
         pieces.push((first, i64::MAX))?;
@@ -129,8 +129,8 @@ pub(crate) fn is_within(left: &[(i64, i64)], right: &[(i64, i64)]) -> bool
             return true;
         }
         from = last + 1;
-        on_left = ahead(on_left, from);
-        on_right = ahead(on_right, from);
+        on_left = skip_before(on_left, from);
+        on_right = skip_before(on_right, from);
     }
 }
 

@@ -6,7 +6,7 @@ use cue_lattice::{Memory, Text};
 use std::alloc::Global;
 
 /// The same texts in their order, each of them once.
-pub(crate) fn sorted(alloc: Global, mut texts: Vec<Text>) -> Result<Vec<Text>, Memory>
+pub(crate) fn sort_texts(alloc: Global, mut texts: Vec<Text>) -> Result<Vec<Text>, Memory>
     ensures ascending { IfOk result (λ sorted. IsAscending sorted.items) }
     ensures listed { IfOk result (λ sorted. (text : List ℕ) →
         is_listed sorted.items text ≡ is_listed texts.items text) }

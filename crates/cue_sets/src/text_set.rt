@@ -1,7 +1,7 @@
 ghost use Rattle.std.specs.Prelude.{◌≡◌, ◌↔◌, ℕ, Bool, List, [], ◌∷◌, true, false, not, ◌&&◌, ◌||◌};
 ghost use Rattle.std.specs.Prelude.{IfOk, IfSome, IfNone, IsTrue};
 ghost use Rattle.std.specs.List.{list_all, list_any};
-ghost use Rattle.cue_sets.specs.Inner.Combination.{keeps};
+ghost use Rattle.cue_sets.specs.Inner.Combination.{combination_keeps};
 ghost use Rattle.cue_sets.specs.Inner.Walk.{left_of};
 ghost use Rattle.cue_sets.specs.Changes.{IsChanged, Unifies};
 ghost use Rattle.cue_sets.specs.declared.text_change.TextChange.TheVariants.{Keep, Lack};
@@ -12,8 +12,8 @@ use crate::TextChange;
 use crate::combination::Combination;
 use crate::joining::{move_to_room, put_each};
 use crate::leaving::remove_each;
-use crate::merging::{Walk, is_before, merge};
-use crate::sorting::sorted;
+use crate::merging::{MergeWalk, is_before, merge};
+use crate::sorting::sort_texts;
 use crate::texts::{
     Lists, are_same, ascends, copies, each_is_listed, has, is_member, zeros, zeros_listed,
 };
@@ -74,14 +74,14 @@ impl TextSet {
     pub fn one(alloc: Global, text: &str) -> Result<TextSet, Memory>
         ensures { IfOk result (λ set. set ≡ (false, text.now ∷ [])) }
     {
-        TextSet::listing(alloc, false, text)
+        TextSet::list_one(alloc, false, text)
     }
 
     /// All texts but one.
     pub fn but(alloc: Global, text: &str) -> Result<TextSet, Memory>
         ensures { IfOk result (λ set. set ≡ (true, text.now ∷ [])) }
     {
-        TextSet::listing(alloc, true, text)
+        TextSet::list_one(alloc, true, text)
     }
 
     /// Whether a text is a member. This is a binary search.
@@ -104,7 +104,7 @@ impl TextSet {
             is_text_member met text ≡ (is_text_member self.now text
             && is_text_member other.now text)) }
     {
-        self.combined(alloc, Combination::Meet, other)
+        self.combine_with(alloc, Combination::Meet, other)
     }
 
     /// The members of either set.
@@ -113,7 +113,7 @@ impl TextSet {
             is_text_member all text ≡ (is_text_member self.now text
             || is_text_member other.now text)) }
     {
-        self.combined(alloc, Combination::Union, other)
+        self.combine_with(alloc, Combination::Union, other)
     }
 
     /// The members of both sets, whose texts are moved and not copied.
@@ -138,13 +138,13 @@ impl TextSet {
         ensures { IfOk result (λ all. (text : List ℕ) →
             is_text_member all text ≡ list_any (λ set. is_text_member set text) sets.items) }
     {
-        let (texts, others) = TextSet::gathered(alloc, sets)?;
+        let (texts, others) = TextSet::gather_texts(alloc, sets)?;
         if texts.is_empty() {
             return Ok(others);
         }
         let listed = TextSet {
             all_but: false,
-            texts: sorted(alloc, texts)?,
+            texts: sort_texts(alloc, texts)?,
         };
         listed.into_union(alloc, others)
     }
@@ -155,13 +155,13 @@ impl TextSet {
         ensures { IfOk result (λ met. (text : List ℕ) →
             is_text_member met text ≡ list_all (λ set. is_text_member set text) sets.items) }
     {
-        let (texts, others) = TextSet::lacked(alloc, sets)?;
+        let (texts, others) = TextSet::gather_lacked(alloc, sets)?;
         if texts.is_empty() {
             return Ok(others);
         }
         let lacking = TextSet {
             all_but: true,
-            texts: sorted(alloc, texts)?,
+            texts: sort_texts(alloc, texts)?,
         };
         lacking.into_meet(alloc, others)
     }
@@ -172,7 +172,7 @@ impl TextSet {
             is_text_member rest text ≡ (is_text_member self.now text
             && not (is_text_member other.now text))) }
     {
-        self.combined(alloc, Combination::Without, other)
+        self.combine_with(alloc, Combination::Without, other)
     }
 
     /// The only member, where there is one.
@@ -262,7 +262,7 @@ impl TextSet {
             return Ok(TextChange::Keep(other));
         }
         if self.all_but && other.all_but && other.is_soon_put_into(self) {
-            return self.lacking(alloc, other);
+            return self.lack_more(alloc, other);
         }
         match self.narrowed_by(alloc, other)? {
             Narrowed::Unchanged => Ok(TextChange::Stay),
@@ -308,7 +308,7 @@ impl TextSet {
     /// What becomes of this set where it lacks the texts too that the other lacks. The room is
     /// twice what it takes, so that a set to which this happens again and again is moved but
     /// seldom.
-    fn lacking(&self, alloc: Global, other: TextSet) -> Result<TextChange, Memory>
+    fn lack_more(&self, alloc: Global, other: TextSet) -> Result<TextChange, Memory>
         requires this { self.now.0 ≡ true }
         requires other { other.0 ≡ true }
         ensures { IfOk result (λ change. Unifies change self.now other) }
@@ -337,7 +337,7 @@ impl TextSet {
     }
 
     /// The texts of the finite ones of these sets, and the members of one or more of the others.
-    fn gathered(alloc: Global, sets: Vec<TextSet>) -> Result<(Vec<Text>, TextSet), Memory>
+    fn gather_texts(alloc: Global, sets: Vec<TextSet>) -> Result<(Vec<Text>, TextSet), Memory>
         ensures { IfOk result (λ gathered. (text : List ℕ) →
             (is_listed gathered.0.items text || is_text_member gathered.1 text)
             ≡ list_any (λ set. is_text_member set text) sets.items) }
@@ -360,7 +360,7 @@ impl TextSet {
 
     /// The texts that one or more of these sets of all texts but some lack, and the members of all
     /// of the finite ones.
-    fn lacked(alloc: Global, sets: Vec<TextSet>) -> Result<(Vec<Text>, TextSet), Memory>
+    fn gather_lacked(alloc: Global, sets: Vec<TextSet>) -> Result<(Vec<Text>, TextSet), Memory>
         ensures { IfOk result (λ found. (text : List ℕ) →
             (not (is_listed found.0.items text) && is_text_member found.1 text)
             ≡ list_all (λ set. is_text_member set text) sets.items) }
@@ -381,14 +381,24 @@ impl TextSet {
         Ok((texts, others))
     }
 
-    fn combined(&self, alloc: Global, how: Combination, other: &TextSet) -> Result<TextSet, Memory>
+    fn combine_with(
+        &self,
+        alloc: Global,
+        how: Combination,
+        other: &TextSet,
+    ) -> Result<TextSet, Memory>
         ensures { IfOk result (λ set. (text : List ℕ) →
-            is_text_member set text ≡ keeps how (is_text_member self.now text)
+            is_text_member set text ≡ combination_keeps how (is_text_member self.now text)
             (is_text_member other.now text)) }
     {
-        let lists = self.lists(how, other);
+        let lists = self.combine_lists(how, other);
         let (left, right) = (self.texts.as_slice(), other.texts.as_slice());
-        TextSet::merged(alloc, lists, Walk::Stays(left), Walk::Stays(right))
+        TextSet::merge_lists(
+            alloc,
+            lists,
+            MergeWalk::Stays(left),
+            MergeWalk::Stays(right),
+        )
     }
 
     /// Where the texts of the other set are behind those of this one, and all stay, they are put at
@@ -400,10 +410,10 @@ impl TextSet {
         other: TextSet,
     ) -> Result<TextSet, Memory>
         ensures { IfOk result (λ set. (text : List ℕ) →
-            is_text_member set text ≡ keeps how (is_text_member self text)
+            is_text_member set text ≡ combination_keeps how (is_text_member self text)
             (is_text_member other text)) }
     {
-        let lists = self.lists(how, &other);
+        let lists = self.combine_lists(how, &other);
         let (mut left, mut right) = (self.texts, other.texts);
         if lists.keep_each() && is_before(left.as_slice(), right.as_slice()) {
             left.append(&mut right)?;
@@ -413,11 +423,16 @@ impl TextSet {
             });
         }
         let (left, right) = (VecDeque::from(left), VecDeque::from(right));
-        TextSet::merged(alloc, lists, Walk::Moves(left), Walk::Moves(right))
+        TextSet::merge_lists(
+            alloc,
+            lists,
+            MergeWalk::Moves(left),
+            MergeWalk::Moves(right),
+        )
     }
 
     /// How what this set and the other one list becomes what their combination lists.
-    fn lists(&self, how: Combination, other: &TextSet) -> Lists
+    fn combine_lists(&self, how: Combination, other: &TextSet) -> Lists
         ensures how { result.how ≡ how }
         ensures left { result.left_all_but ≡ self.now.0 }
         ensures right { result.right_all_but ≡ other.now.0 }
@@ -430,16 +445,16 @@ impl TextSet {
     }
 
     /// A combination of two sets, of which these are the lists.
-    fn merged(
+    fn merge_lists(
         alloc: Global,
         lists: Lists,
-        left: Walk<'_>,
-        right: Walk<'_>,
+        left: MergeWalk<'_>,
+        right: MergeWalk<'_>,
     ) -> Result<TextSet, Memory>
         requires left { IsAscending (left_of left) }
         requires right { IsAscending (left_of right) }
         ensures { IfOk result (λ set. (text : List ℕ) → is_text_member set text
-            ≡ keeps lists.how (is_text_member (lists.left_all_but, left_of left.entry) text)
+            ≡ combination_keeps lists.how (is_text_member (lists.left_all_but, left_of left.entry) text)
             (is_text_member (lists.right_all_but, left_of right.entry) text)) }
     {
         Ok(TextSet {
@@ -456,7 +471,7 @@ impl TextSet {
     }
 
     /// The set that lists one text.
-    fn listing(alloc: Global, all_but: bool, text: &str) -> Result<TextSet, Memory>
+    fn list_one(alloc: Global, all_but: bool, text: &str) -> Result<TextSet, Memory>
         ensures { IfOk result (λ set. set ≡ (all_but, text.now ∷ [])) }
     {
         let mut texts = Vec::with_capacity(alloc, 1)?;
@@ -498,10 +513,15 @@ impl Narrow for TextSet {
         if other.is_within(self) {
             return Ok(Narrowed::To(other));
         }
-        let lists = self.lists(Combination::Meet, &other);
+        let lists = self.combine_lists(Combination::Meet, &other);
         let right = VecDeque::from(other.texts);
         let left = self.texts.as_slice();
-        let met = TextSet::merged(alloc, lists, Walk::Stays(left), Walk::Moves(right))?;
+        let met = TextSet::merge_lists(
+            alloc,
+            lists,
+            MergeWalk::Stays(left),
+            MergeWalk::Moves(right),
+        )?;
         Ok(Narrowed::To(met))
     }
 

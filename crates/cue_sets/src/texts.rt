@@ -1,7 +1,7 @@
 ghost use Rattle.std.specs.Prelude.{◌≡◌, ℕ, ◌↔◌, List, IfOk, IsTrue, true, false, replicate};
-ghost use Rattle.cue_sets.specs.Inner.Combination.{keeps};
-ghost use Rattle.cue_sets.specs.Inner.Merge.{lists};
-ghost use Rattle.cue_sets.specs.Texts.{flipped, is_listed, IsAscending, IsFirstText};
+ghost use Rattle.cue_sets.specs.Inner.Combination.{combination_keeps};
+ghost use Rattle.cue_sets.specs.Inner.Merge.{combination_lists};
+ghost use Rattle.cue_sets.specs.Texts.{is_member_if, is_listed, IsAscending, IsFirstText};
 
 use crate::combination::Combination;
 use cue_lattice::{Memory, Text};
@@ -11,7 +11,7 @@ use std::cmp::Ordering;
 /// Whether a text is a member of a set, by whether it is listed. `all_but` says that the set has
 /// all texts but the listed ones.
 pub(crate) fn is_member(all_but: bool, listed: bool) -> bool
-    ensures { result ≡ flipped all_but listed }
+    ensures { result ≡ is_member_if all_but listed }
 {
     all_but != listed
 }
@@ -29,7 +29,7 @@ pub(crate) struct Lists {
 impl Lists {
     /// Whether the combination has all texts but the listed ones.
     pub(crate) fn all_but(self) -> bool
-        ensures { result ≡ keeps self.how self.left_all_but self.right_all_but }
+        ensures { result ≡ combination_keeps self.how self.left_all_but self.right_all_but }
     {
         self.how.keeps(self.left_all_but, self.right_all_but)
     }
@@ -37,16 +37,16 @@ impl Lists {
     /// Whether the combination lists each text that one set alone lists.
     pub(crate) fn keep_each(self) -> bool
         ensures left { IsTrue result →
-            lists self.how self.left_all_but self.right_all_but true false ≡ true }
+            combination_lists self.how self.left_all_but self.right_all_but true false ≡ true }
         ensures right { IsTrue result →
-            lists self.how self.left_all_but self.right_all_but false true ≡ true }
+            combination_lists self.how self.left_all_but self.right_all_but false true ≡ true }
     {
         self.keeps(true, false) && self.keeps(false, true)
     }
 
     /// Whether the combination lists a text, by which of the two sets list it.
     pub(crate) fn keeps(self, in_left: bool, in_right: bool) -> bool
-        ensures { result ≡ lists self.how self.left_all_but self.right_all_but in_left in_right }
+        ensures { result ≡ combination_lists self.how self.left_all_but self.right_all_but in_left in_right }
     {
         let kept = self.how.keeps(
             is_member(self.left_all_but, in_left),
@@ -90,7 +90,7 @@ pub(crate) fn each_is_listed(texts: &[Text], others: &[Text], wanted: bool) -> b
     if texts.len() < others.len() / 16 {
         return each_is_found(texts, others, wanted);
     }
-    each_is_met(texts, others, wanted)
+    each_is_walked(texts, others, wanted)
 }
 
 /// What `each_is_listed` answers, by a search for each of the texts.
@@ -108,7 +108,7 @@ fn each_is_found(texts: &[Text], others: &[Text], wanted: bool) -> bool
 }
 
 /// What `each_is_listed` answers, by one walk over both lists.
-fn each_is_met(texts: &[Text], others: &[Text], wanted: bool) -> bool
+fn each_is_walked(texts: &[Text], others: &[Text], wanted: bool) -> bool
     requires texts { IsAscending texts.now }
     requires others { IsAscending others.now }
     ensures { IsTrue result ↔

@@ -1,20 +1,20 @@
 -- What keeps a site from its work.
 use Rattle.std.specs.Prelude.{◌≡◌, ℕ, List, string_bytes}
 use Rattle.std.specs.declared.io.Error.{Error}
-use Rattle.cue_settings.specs.declared.stop.Stop.{Stop}
-use Rattle.cue_settings.specs.declared.stop.Stop.TheVariants as stops
+use Rattle.cue_settings.specs.declared.stop.SettingsError.{SettingsError}
+use Rattle.cue_settings.specs.declared.stop.SettingsError.TheVariants as stops
 
 -- a journal that is damaged
-abbrev pub IsDamage : Stop → Type 0
+abbrev pub IsDamage : SettingsError → Type 0
 IsDamage (stops.Journal number name place) = Unit {0}
 IsDamage other = ⊥
 
 -- this file is damaged at this byte
-abbrev pub IsDamaged : List ℕ → ℕ → Stop → Type 0
+abbrev pub IsDamaged : List ℕ → ℕ → SettingsError → Type 0
 IsDamaged file at (stops.Damaged said place) = (string_bytes said ≡ file) × (place ≡ at)
 IsDamaged file at other = ⊥
 
 -- this operation of the system failed, with this error
-abbrev pub IsSystem : List ℕ → Error → Stop → Type 0
+abbrev pub IsSystem : List ℕ → Error → SettingsError → Type 0
 IsSystem operation error (stops.System said file why) = (said.now ≡ operation) × (why ≡ error)
 IsSystem operation error other = ⊥

@@ -7,5 +7,5 @@ mod stop;
 mod words;
 
 pub use rules::{grows, may_listen};
-pub use stop::Stop;
-pub use words::{Words, command, words_of};
+pub use stop::SettingsError;
+pub use words::{Settings, command, words_of};

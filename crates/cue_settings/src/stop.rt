@@ -9,7 +9,7 @@ use thiserror::Error;
 
 /// What keeps a site from its work, or ends it.
 #[derive(Debug, Drop, Error)]
-pub enum Stop {
+pub enum SettingsError {
     /// An operation of the system on a file or an address failed.
     #[error("{operation}: {error}: {file}")]
     System {
@@ -41,39 +41,44 @@ pub enum Stop {
     OpenToAll,
 }
 
-impl Stop {
+impl SettingsError {
     /// Why an entry of a journal is refused: memory ran out, or the journal is damaged.
-    pub fn of_entry(why: Refusal) -> Stop
+    pub fn of_entry(why: Refusal) -> SettingsError
         ensures memory { why.kind ≡ kinds.Memory → result ≡ Stop.OutOfMemory }
         ensures damage { why.kind ≢ kinds.Memory → IsDamage result }
     {
         match why.kind {
-            Kind::Memory => Stop::OutOfMemory,
-            kind => Stop::Journal(kind.number(), kind.name(), why.place),
+            Kind::Memory => SettingsError::OutOfMemory,
+            kind => SettingsError::Journal(kind.number(), kind.name(), why.place),
         }
     }
 
     /// A file that is damaged at a byte.
-    pub fn damaged(alloc: Global, file: &str, at: usize) -> Stop
+    pub fn damaged(alloc: Global, file: &str, at: usize) -> SettingsError
         ensures { (result ≡ Stop.OutOfMemory) ⊎ IsDamaged file.now at result }
     {
         match String::from_str(alloc, file) {
-            Ok(file) => Stop::Damaged { file, at },
-            Err(_) => Stop::OutOfMemory,
+            Ok(file) => SettingsError::Damaged { file, at },
+            Err(_) => SettingsError::OutOfMemory,
         }
     }
 
     /// An operation of the system on a file that failed.
-    pub fn system(alloc: Global, operation: &'static str, file: &str, error: io::Error) -> Stop
+    pub fn system(
+        alloc: Global,
+        operation: &'static str,
+        file: &str,
+        error: io::Error,
+    ) -> SettingsError
         ensures { (result ≡ Stop.OutOfMemory) ⊎ IsSystem operation.now error result }
     {
         match String::from_str(alloc, file) {
-            Ok(file) => Stop::System {
+            Ok(file) => SettingsError::System {
                 operation,
                 file,
                 error,
             },
-            Err(_) => Stop::OutOfMemory,
+            Err(_) => SettingsError::OutOfMemory,
         }
     }
 }

@@ -1,12 +1,12 @@
 ghost use Rattle.std.specs.Prelude.{◌≡◌, ◌*◌};
 ghost use Rattle.std.specs.Duration.{as_nanos};
 
-use crate::stop::Stop;
+use crate::stop::SettingsError;
 use anyhow::Result;
 use clap::builder::ValueParser;
 use clap::{Arg, ArgAction, ArgMatches, Command, value_parser};
 use cue_doors::Doors;
-use cue_http::{Bounds, Source};
+use cue_http::{Bounds, PullSource};
 use http_server::Config;
 use std::alloc::{AllocError, Global};
 use std::net::{SocketAddr, ToSocketAddrs};
@@ -20,7 +20,7 @@ const MOST_PENDING: usize = 256 * 1024;
 
 /// What the program was asked for.
 #[derive(Drop)]
-pub struct Words<'a> {
+pub struct Settings<'a> {
     pub data: &'a str,
     pub listen: &'a str,
     pub peers: Vec<&'a str>,
@@ -126,8 +126,8 @@ fn all_of<'a>(
 }
 
 /// What was found of them.
-pub fn words_of<'a>(alloc: Global, matches: &ArgMatches<'a>) -> Result<Words<'a>> {
-    Ok(Words {
+pub fn words_of<'a>(alloc: Global, matches: &ArgMatches<'a>) -> Result<Settings<'a>> {
+    Ok(Settings {
         data: matches.get_str("data").unwrap_or("."),
         listen: matches.get_str("listen").unwrap_or("127.0.0.1:8420"),
         peers: all_of(alloc, matches, "peer")?,
@@ -144,16 +144,16 @@ pub fn words_of<'a>(alloc: Global, matches: &ArgMatches<'a>) -> Result<Words<'a>
 fn looked_up(rt: &HostRuntime, name: &str) -> Result<Option<SocketAddr>> {
     match name.to_socket_addrs(rt) {
         Ok(mut addresses) => Ok(addresses.next()),
-        Err(error) => Err(Stop::system(rt.alloc(), "look up", name, error).into()),
+        Err(error) => Err(SettingsError::system(rt.alloc(), "look up", name, error).into()),
     }
 }
 
-impl<'a> Words<'a> {
+impl<'a> Settings<'a> {
     /// The address to listen on.
     pub fn listen(&self, rt: &HostRuntime) -> Result<SocketAddr> {
         match looked_up(rt, self.listen)? {
             Some(address) => Ok(address),
-            None => Err(Stop::Listen.into()),
+            None => Err(SettingsError::Listen.into()),
         }
     }
 
@@ -182,16 +182,16 @@ impl<'a> Words<'a> {
     }
 
     /// The addresses of the peers.
-    pub fn sources(&self, rt: &HostRuntime) -> Result<Vec<Source>> {
+    pub fn sources(&self, rt: &HostRuntime) -> Result<Vec<PullSource>> {
         let mut sources = Vec::new(rt.alloc());
         for peer in &self.peers {
             let Some(host) = peer.strip_prefix("http://") else {
-                return Err(Stop::Peer.into());
+                return Err(SettingsError::Peer.into());
             };
             let host = host.strip_suffix("/").unwrap_or(host);
             match looked_up(rt, host)? {
-                Some(at) => sources.push(Source { at })?,
-                None => return Err(Stop::Peer.into()),
+                Some(at) => sources.push(PullSource { at })?,
+                None => return Err(SettingsError::Peer.into()),
             }
         }
         Ok(sources)

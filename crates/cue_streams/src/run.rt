@@ -1,6 +1,6 @@
 use crate::line::{End, Line};
 use anyhow::anyhow;
-use cue_answer::{Question, answer_to};
+use cue_answer::{SiteQuestion, answer_to};
 use cue_wire::{Client, Kind, Replica, Session};
 use std::alloc::Global;
 
@@ -49,7 +49,7 @@ struct Fed {
 /// Whether each answer to the stream of a line is the one that the line has.
 pub fn agrees(alloc: Global, line: &Line, cuts: Cuts) -> anyhow::Result<bool> {
     let fed = feed(alloc, line.requests.as_slice(), cuts)?;
-    let answer = answer_to(alloc, Question::Export, &fed.site)?;
+    let answer = answer_to(alloc, SiteQuestion::Export, &fed.site)?;
     Ok(
         fed.replies.as_slice() == line.replies.as_slice()
             && end_of(alloc, line.requests.as_slice())? == line.end

@@ -9,7 +9,7 @@ use Rattle.cue_syntax.specs.declared.tree.Label.{Label}
 use Rattle.cue_syntax.specs.declared.tree.LabelName.{LabelName}
 use Rattle.cue_syntax.specs.declared.tree.Mark.{Mark}
 use Rattle.cue_syntax.specs.Syntax.{Expression, Elements, no_elements, element, Entry, ellipsis, field, definition, Entries, no_entries, entry, Rest, no_rest, any_rest, each_rest}
-use Rattle.cue_syntax.specs.Spelling.{Reads, one, comma_if, identifier_kind, label_kind, spell, spell_mark, spell_label, spell_elements, spell_more_elements, spell_rest, spell_entry, spell_entries, spell_more_entries}
+use Rattle.cue_syntax.specs.Spelling.{SpellsTree, one, comma_if, identifier_kind, label_kind, spell, spell_mark, spell_label, spell_elements, spell_more_elements, spell_rest, spell_entry, spell_entries, spell_more_entries}
 use Rattle.cue_syntax.specs.Grammar.{AreRight, IsRightRest, AreRightEntries, IsNested, EndsEntries, EndsElements, IsPackageName, IsRightPackage, levels_of_elements, levels_of_rest, levels_of_entries, Limit}
 use Rattle.cue_syntax.proofs.ReadingsJoin.{reads_then, reads_none}
 use Rattle.cue_syntax.proofs.RowsGrow.{reads_same}
@@ -19,7 +19,7 @@ use Rattle.cue_syntax.proofs.ExpressionsByParts.{three}
 
 -- labels
 -- a mark and then its colon are the mark of a label
-pub mark_then : {a b : List Token} (t : Token) (m : Mark) → Reads (t ∷ a) (spell_mark m) a → Reads a (one (kinds.Mark points.Colon)) b → Marked (t ∷ a) b
+pub mark_then : {a b : List Token} (t : Token) (m : Mark) → SpellsTree (t ∷ a) (spell_mark m) a → SpellsTree a (one (kinds.Mark points.Colon)) b → Marked (t ∷ a) b
 mark_then t m first colon = record { part = m; reads = reads_then first colon }
 
 -- an expression is a value with no label before it
@@ -27,8 +27,8 @@ pub expression_value : {limit : Limit} {n : ℕ} {a b : List Token} → AnExpres
 expression_value first = record { chain = []; tree = first.part; reads = first.reads; right = first.good; within = keeps_from first.within (omega arith) }
 
 label_reads : {a b c : List Token} (t : Token) (label : LabelName) (m : Mark) (chain : List Label) (e : Expression) → t.kind ≡ label_kind label
-    → Reads a (spell_mark m ++ one (kinds.Mark points.Colon)) b → Reads b (flat_map spell_label chain ++ spell e) c
-    → Reads (t ∷ a) (spell_label (record { name = label; mark = m }) ++ flat_map spell_label chain ++ spell e) c
+    → SpellsTree a (spell_mark m ++ one (kinds.Mark points.Colon)) b → SpellsTree b (flat_map spell_label chain ++ spell e) c
+    → SpellsTree (t ∷ a) (spell_label (record { name = label; mark = m }) ++ flat_map spell_label chain ++ spell e) c
 label_reads t label m chain e kind first second =
     reads_kind t kind (reads_same (three (spell_mark m ++ one (kinds.Mark points.Colon)) (flat_map spell_label chain) (spell e)) (reads_then first second))
 
@@ -59,7 +59,7 @@ field_entry top t label kind mark value = record {
 }
 
 -- the name of a definition, a colon and a value are a declaration of the top
-pub definition_entry : {limit : Limit} {n : ℕ} {a b c : List Token} (t : Token) (word : List ℕ) → t.kind ≡ kinds.Definition word → Reads a (one (kinds.Mark points.Colon)) b → Valued limit n b c
+pub definition_entry : {limit : Limit} {n : ℕ} {a b c : List Token} (t : Token) (word : List ℕ) → t.kind ≡ kinds.Definition word → SpellsTree a (one (kinds.Mark points.Colon)) b → Valued limit n b c
     → AnEntry true limit n (t ∷ a) c
 definition_entry {a = a} {c = c} t word kind colon value = record {
   part = definition word t.from value.chain value.tree;
@@ -68,7 +68,7 @@ definition_entry {a = a} {c = c} t word kind colon value = record {
   within = keeps_from value.within (omega arith);
 }
   where
-    behind : Reads a (one (kinds.Mark points.Colon) ++ flat_map spell_label value.chain ++ spell value.tree) c
+    behind : SpellsTree a (one (kinds.Mark points.Colon) ++ flat_map spell_label value.chain ++ spell value.tree) c
     behind = reads_same (three (one (kinds.Mark points.Colon)) (flat_map spell_label value.chain) (spell value.tree)) (reads_then colon value.reads)
 
 -- `...` is a declaration
@@ -99,7 +99,7 @@ entry_entries {top = top} first more = record {
 pub comma_entries : {top : Bool} {limit : Limit} {n : ℕ} {a b : List Token} (t : Token) → t.kind ≡ (kinds.Mark points.Comma) → Declared top limit n a b → MoreDeclared top limit n (t ∷ a) b
 comma_entries {top} {limit} {n} {a} {b} t kind more = by_entries more.tree more.comma more.reads more.right more.nested more.ends more.within
   where
-    by_entries : (es : Entries) (comma : Bool) → Reads a (spell_entries es ++ (comma_if comma ++ closing top)) b → AreRightEntries es → NestedIn top es → EndsEntries comma es
+    by_entries : (es : Entries) (comma : Bool) → SpellsTree a (spell_entries es ++ (comma_if comma ++ closing top)) b → AreRightEntries es → NestedIn top es → EndsEntries comma es
         → Keeps limit (levels_of_entries es + n) → MoreDeclared top limit n (t ∷ a) b
     by_entries no_entries true reads right nested ends within = absurd ends
     by_entries no_entries false reads right nested ends within = record { tree = no_entries; comma = true; reads = reads_kind t kind reads; right = tt; nested = nested; within = within }
@@ -153,7 +153,7 @@ element_elements {a = a} {c = c} first more = record {
   tree = element first.part more.tree;
   tail = more.tail;
   comma = more.comma;
-  reads = subst (λ z. Reads a (spell first.part ++ spell_more_elements (kinds.Mark points.Comma) more.tree ++ (z ++ (comma_if more.comma ++ one (kinds.Mark points.CloseBracket)))) c)
+  reads = subst (λ z. SpellsTree a (spell first.part ++ spell_more_elements (kinds.Mark points.Comma) more.tree ++ (z ++ (comma_if more.comma ++ one (kinds.Mark points.CloseBracket)))) c)
       (rest_is more.tail first.part more.tree)
       (reads_same (three (spell first.part) (spell_more_elements (kinds.Mark points.Comma) more.tree) (rest_behind more.tail ++ (comma_if more.comma ++ one (kinds.Mark points.CloseBracket))))
       (reads_then first.reads more.reads));
@@ -196,7 +196,7 @@ ellipsis_elements {limit} {n} {a} {b} t kind more = by_rest more.tail more.comma
     open_ends (each_rest e) true dots = tt
     open_ends (each_rest e) false dots = tt
 
-    by_rest : (tail : Rest) (comma : Bool) → Reads a (spell_further tail ++ (comma_if comma ++ one (kinds.Mark points.CloseBracket))) b → HasDots tail → IsRightRest tail
+    by_rest : (tail : Rest) (comma : Bool) → SpellsTree a (spell_further tail ++ (comma_if comma ++ one (kinds.Mark points.CloseBracket))) b → HasDots tail → IsRightRest tail
         → Keeps limit (levels_of_rest tail + n) → Listed limit n (t ∷ a) b
     by_rest no_rest comma reads dots right within = absurd dots
     by_rest any_rest comma reads dots right within = record { tree = no_elements; tail = any_rest; comma = comma; reads = reads_kind t kind reads; right = tt; rest_right = tt; ends = open_ends any_rest comma tt; within = keeps_from within (omega arith) }
@@ -223,7 +223,7 @@ bracket_more t kind keeps = record { tree = no_elements; tail = no_rest; comma =
 pub comma_elements : {limit : Limit} {n : ℕ} {a b : List Token} (t : Token) → t.kind ≡ (kinds.Mark points.Comma) → Listed limit n a b → MoreListed limit n (t ∷ a) b
 comma_elements {limit} {n} {a} {b} t kind more = by_elements more.tree more.tail more.comma more.reads more.right more.rest_right more.ends more.within
   where
-    by_elements : (es : Elements) (tail : Rest) (comma : Bool) → Reads a (spell_elements (kinds.Mark points.Comma) es ++ (spell_rest es tail ++ (comma_if comma ++ one (kinds.Mark points.CloseBracket)))) b → AreRight es
+    by_elements : (es : Elements) (tail : Rest) (comma : Bool) → SpellsTree a (spell_elements (kinds.Mark points.Comma) es ++ (spell_rest es tail ++ (comma_if comma ++ one (kinds.Mark points.CloseBracket)))) b → AreRight es
         → IsRightRest tail → EndsElements comma tail es → Keeps limit (max (levels_of_elements es) (levels_of_rest tail) + n) → MoreListed limit n (t ∷ a) b
     by_elements no_elements no_rest true reads right each ends within = absurd ends
     by_elements no_elements no_rest false reads right each ends within = record { tree = no_elements; tail = no_rest; comma = true; reads = reads_kind t kind reads; right = tt; rest_right = tt; within = within }
@@ -233,7 +233,7 @@ comma_elements {limit} {n} {a} {b} t kind more = by_elements more.tree more.tail
       tree = element e es;
       tail = tail;
       comma = comma;
-      reads = reads_kind t kind (subst (λ z. Reads a (spell e ++ spell_more_elements (kinds.Mark points.Comma) es ++ (z ++ (comma_if comma ++ one (kinds.Mark points.CloseBracket)))) b) (sym (rest_is tail e es)) reads);
+      reads = reads_kind t kind (subst (λ z. SpellsTree a (spell e ++ spell_more_elements (kinds.Mark points.Comma) es ++ (z ++ (comma_if comma ++ one (kinds.Mark points.CloseBracket)))) b) (sym (rest_is tail e es)) reads);
       right = right;
       rest_right = each;
       within = within;

@@ -12,8 +12,8 @@ use Rattle.cue_syntax.specs.declared.tree.Sign.{Sign}
 use Rattle.cue_syntax.specs.declared.tree.Sign.TheVariants as signs
 use Rattle.cue_syntax.specs.declared.tree.Signed.{Signed}
 use Rattle.cue_syntax.specs.Syntax.{Expression, name, integer, text, branch, no_elements, no_branches, next_branch, no_entries, no_rest, any_rest}
-use Rattle.cue_syntax.specs.Spelling.{Piece, Reads, one}
-use Rattle.cue_syntax.specs.Grammar.{IsKeyword, IsOperand, Limit, unlimited, at_most, greatest}
+use Rattle.cue_syntax.specs.Spelling.{SpelledPiece, SpellsTree, one}
+use Rattle.cue_syntax.specs.Grammar.{IsKeyword, IsOperand, Limit, unlimited, at_most, greatest_magnitude}
 use Rattle.cue_syntax.specs.Recogniser.{Goal, Stack, is_keyword, depth, levels_of}
 use Rattle.cue_syntax.proofs.ReadingsJoin.{reads_none}
 use Rattle.cue_syntax.proofs.StillToRead.{under, beneath, Keeps, Valued, AUnary, Declared, MoreDeclared, Whole, Packaged, Remains, Below, Ahead}
@@ -29,7 +29,7 @@ keeps_both {limit = unlimited} first second le = record { within = tt }
 keeps_both {limit = at_most l} first second le = record { within = omega (arith, first.within, second.within, le) }
 
 -- a token of a kind before tokens that are read is read as a piece of that kind before theirs
-pub reads_kind : {a b : List Token} {p : List Piece} {k : TokenKind} (t : Token) → t.kind ≡ k → Reads a p b → Reads (t ∷ a) (one k ++ p) b
+pub reads_kind : {a b : List Token} {p : List SpelledPiece} {k : TokenKind} (t : Token) → t.kind ≡ k → SpellsTree a p b → SpellsTree (t ∷ a) (one k ++ p) b
 reads_kind t kind reads = record { follows = (kind, tt, reads.follows) }
 
 -- keywords and operands
@@ -52,14 +52,14 @@ token_of kind = record { kind = kind; from = 0; to = 0 }
 abbrev nothing_signed : Signed
 nothing_signed = record { sign = signs.Absent; magnitude = 0 }
 
-zero_in_range : (sign : Sign) → 0 ≤ greatest sign
+zero_in_range : (sign : Sign) → 0 ≤ greatest_magnitude sign
 zero_in_range sign = omega arith
 
 abbrev number : Expression
 number = integer nothing_signed
 
 -- one token
-is_one : (k : TokenKind) (rest : List Token) → Reads (token_of k ∷ rest) (one k) rest
+is_one : (k : TokenKind) (rest : List Token) → SpellsTree (token_of k ∷ rest) (one k) rest
 is_one k rest = record { follows = (refl, tt, refl) }
 
 number_ends : {n : ℕ} {limit : Limit} (rest : List Token) → Keeps limit n → (a : List Token) × AUnary limit n a rest

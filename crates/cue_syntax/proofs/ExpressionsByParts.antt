@@ -7,8 +7,8 @@ use Rattle.cue_syntax.specs.declared.tree.Comparison.{Comparison}
 use Rattle.cue_syntax.specs.declared.tree.Identifier.TheVariants as identifiers
 use Rattle.cue_syntax.specs.declared.tree.Sign.TheVariants as signs
 use Rattle.cue_syntax.specs.Syntax.{Expression, name, integer, text, bottom, bound, other_integer, other_text, parenthesis, struct, close, list, conjunction, disjunction, Elements, no_elements, element, Branch, branch, Branches, no_branches, next_branch, Entries}
-use Rattle.cue_syntax.specs.Spelling.{Piece, Reads, IsPlace, one, comma_if, comparison_kind, spell, spell_more_elements, spell_more_branches, spell_elements, spell_rest, spell_entries}
-use Rattle.cue_syntax.specs.Grammar.{IsUnary, IsConjunct, AreRight, AreUnary, AreRightBranches, TwoBranches, levels_of_elements, levels_of_branches, Limit, greatest}
+use Rattle.cue_syntax.specs.Spelling.{SpelledPiece, SpellsTree, IsTokenPlace, one, comma_if, comparison_kind, spell, spell_more_elements, spell_more_branches, spell_elements, spell_rest, spell_entries}
+use Rattle.cue_syntax.specs.Grammar.{IsUnary, IsConjunct, AreRight, AreUnary, AreRightBranches, TwoBranches, levels_of_elements, levels_of_branches, Limit, greatest_magnitude}
 use Rattle.cue_syntax.specs.Recogniser.{is_keyword}
 use Rattle.cue_syntax.proofs.ReadingsJoin.{reads_then, reads_none, reads_placed}
 use Rattle.cue_syntax.proofs.RowsGrow.{reads_same}
@@ -19,24 +19,24 @@ place : List Token → ℕ
 place [] = 0
 place (token ∷ tokens) = token.from
 
-is_place : (a : List Token) → IsPlace a (place a)
+is_place : (a : List Token) → IsTokenPlace a (place a)
 unfolding place
 is_place [] = tt
 is_place (token ∷ tokens) = refl
 
-reads_end : {a b c : List Token} {p : List Piece} → Reads a p b → Reads b [] c → Reads a p c
+reads_end : {a b c : List Token} {p : List SpelledPiece} → SpellsTree a p b → SpellsTree b [] c → SpellsTree a p c
 reads_end {p = p} first second = reads_same (append-nil p) (reads_then first second)
 
 -- rows of pieces, bracketed from the left
-pub three : (p q r : List Piece) → p ++ (q ++ r) ≡ p ++ q ++ r
+pub three : (p q r : List SpelledPiece) → p ++ (q ++ r) ≡ p ++ q ++ r
 three p q r = sym (append_assoc p q r)
 
 -- the same of four rows
-pub four : (p q r s : List Piece) → p ++ (q ++ (r ++ s)) ≡ p ++ q ++ r ++ s
+pub four : (p q r s : List SpelledPiece) → p ++ (q ++ (r ++ s)) ≡ p ++ q ++ r ++ s
 four p q r s = simp append_assoc
 
 -- the same of five rows
-pub five : (p q r s u : List Piece) → p ++ (q ++ (r ++ (s ++ u))) ≡ p ++ q ++ r ++ s ++ u
+pub five : (p q r s u : List SpelledPiece) → p ++ (q ++ (r ++ (s ++ u))) ≡ p ++ q ++ r ++ s ++ u
 five p q r s u = simp append_assoc
 
 -- conjunctions
@@ -48,7 +48,7 @@ conjunct_is _ unary = tt
 pub unary_parts : {limit : Limit} {n : ℕ} {a b c : List Token} → AUnary limit n a b → MoreParts limit n b c → AConjunct limit n a c
 unary_parts {limit} {n} {a} {b} {c} first more = by_parts more.part more.reads more.good more.within
   where
-    by_parts : (es : Elements) → Reads b (spell_more_elements (kinds.Mark points.Ampersand) es) c → AreRight es × AreUnary es → Keeps limit (levels_of_elements es + n) → AConjunct limit n a c
+    by_parts : (es : Elements) → SpellsTree b (spell_more_elements (kinds.Mark points.Ampersand) es) c → AreRight es × AreUnary es → Keeps limit (levels_of_elements es + n) → AConjunct limit n a c
     by_parts no_elements reads good within = record {
       part = first.part;
       reads = reads_end first.reads reads;
@@ -120,7 +120,7 @@ term_terms first more = record {
 pub conjunct_terms : {limit : Limit} {n : ℕ} {a b c : List Token} → AConjunct limit n a b → MoreTerms limit n b c → AnExpression limit n a c
 conjunct_terms {limit} {n} {a} {b} {c} first more = by_terms more.part more.reads more.good more.within
   where
-    by_terms : (bs : Branches) → Reads b (spell_more_branches bs) c → AreRightBranches bs → Keeps limit (levels_of_branches bs + n) → AnExpression limit n a c
+    by_terms : (bs : Branches) → SpellsTree b (spell_more_branches bs) c → AreRightBranches bs → Keeps limit (levels_of_branches bs + n) → AnExpression limit n a c
     by_terms no_branches reads good within = record { part = first.part; reads = reads_end first.reads reads; good = first.good.0; within = first.within }
     by_terms (next_branch d bs) reads good within =
         let further : FurtherTerms limit n b c = record { part = next_branch d bs; reads = reads; good = (good, tt); within = within } in
@@ -167,7 +167,7 @@ pub signed_unary : {limit : Limit} {n : ℕ} {a b : List Token} → IsSigned a b
 signed_unary first keeps = record { part = integer first.part; reads = first.reads; good = (first.range, tt); within = keeps_from keeps (omega arith) }
 
 -- digits that are in range are an integer without a sign
-pub integer_signed : {a : List Token} (t : Token) (n : ℕ) → t.kind ≡ kinds.Integer n → n ≤ greatest signs.Absent → IsSigned (t ∷ a) a
+pub integer_signed : {a : List Token} (t : Token) (n : ℕ) → t.kind ≡ kinds.Integer n → n ≤ greatest_magnitude signs.Absent → IsSigned (t ∷ a) a
 integer_signed t n kind range = record { part = record { sign = signs.Absent; magnitude = n }; reads = reads_kind t kind reads_none; range = range }
 
 -- `-` and then a magnitude in its range are an integer
@@ -218,8 +218,8 @@ list_unary t kind first = record {
 }
 
 close_reads : {a b : List Token} (es : Entries) (inner comma : Bool)
-    → Reads a (one (kinds.Mark points.OpenBrace) ++ (spell_entries es ++ (comma_if inner ++ (one (kinds.Mark points.CloseBrace) ++ (comma_if comma ++ one (kinds.Mark points.CloseParenthesis)))))) b
-    → Reads a ((one (kinds.Mark points.OpenBrace) ++ spell_entries es ++ comma_if inner ++ one (kinds.Mark points.CloseBrace)) ++ comma_if comma ++ one (kinds.Mark points.CloseParenthesis)) b
+    → SpellsTree a (one (kinds.Mark points.OpenBrace) ++ (spell_entries es ++ (comma_if inner ++ (one (kinds.Mark points.CloseBrace) ++ (comma_if comma ++ one (kinds.Mark points.CloseParenthesis)))))) b
+    → SpellsTree a ((one (kinds.Mark points.OpenBrace) ++ spell_entries es ++ comma_if inner ++ one (kinds.Mark points.CloseBrace)) ++ comma_if comma ++ one (kinds.Mark points.CloseParenthesis)) b
 close_reads es inner comma reads = reads_same (ap (λ z. one (kinds.Mark points.OpenBrace) ++ z) (five (spell_entries es) (comma_if inner) (one (kinds.Mark points.CloseBrace)) (comma_if comma) (one (kinds.Mark points.CloseParenthesis)))) reads
 
 -- `close(`, and what completes it, are an operand

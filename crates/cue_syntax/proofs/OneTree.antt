@@ -5,8 +5,8 @@ use Rattle.cue_lex.specs.declared.token.TokenKind.TheVariants as kinds
 use Rattle.cue_syntax.specs.declared.tree.Identifier.{Identifier}
 use Rattle.cue_syntax.specs.declared.tree.Identifier.TheVariants as identifiers
 use Rattle.cue_syntax.specs.declared.tree.Package.{Package}
-use Rattle.cue_syntax.specs.Spelling.{Reads, one, comma_if, identifier_kind, spell_entry, spell_more_entries, spell_entries, spell_package}
-use Rattle.cue_syntax.specs.Grammar.{IsRight, AreRight, IsRightRest, IsRightBranch, AreRightBranches, IsRightEntry, AreRightEntries, EndsEntries, Limit, IsFile}
+use Rattle.cue_syntax.specs.Spelling.{SpellsTree, one, comma_if, identifier_kind, spell_entry, spell_more_entries, spell_entries, spell_package}
+use Rattle.cue_syntax.specs.Grammar.{IsRight, AreRight, IsRightRest, IsRightBranch, AreRightBranches, IsRightEntry, AreRightEntries, EndsEntries, Limit, IsFileTree}
 use Rattle.cue_syntax.specs.OneTree.{NoTwoTrees}
 use Rattle.cue_syntax.specs.Syntax.{FileTree, Expression, name, integer, text, bottom, bound, other_integer, other_text, parenthesis, struct, close, list, conjunction, disjunction, Elements, no_elements, element, Rest, no_rest, any_rest, each_rest, Branch, branch, Branches, no_branches, next_branch, Entry, ellipsis, field, definition, Entries, no_entries, entry}
 use Rattle.cue_syntax.proofs.PartsByTheirTokens.{is_mark, is_name, is_comma, first, behind, behind_comma, identifier_at, identifier_of, is_clause}
@@ -67,7 +67,7 @@ pub record TextSeen (n : ℕ) (es : Entries) (comma : Bool) (tokens : List Token
   pub comma_is : first is_comma rest ≡ comma
 
 text_seen : (n : ℕ) (es : Entries) (comma : Bool) (tokens : List Token) → AreKnownEntries es → size_of_entries es ≤ n
-    → Reads tokens (spell_entries es ++ comma_if comma) [] → TextSeen n es comma tokens
+    → SpellsTree tokens (spell_entries es ++ comma_if comma) [] → TextSeen n es comma tokens
 text_seen n es comma tokens known s h =
     let u = cut (spell_entries es) (comma_if comma) h in
     record {
@@ -78,7 +78,7 @@ text_seen n es comma tokens known s h =
 
 -- they begin with no comma, and not as a package clause does
 text_begins : (es : Entries) (comma : Bool) (tokens : List Token) → AreKnownEntries es → EndsEntries comma es
-    → Reads tokens (spell_entries es ++ comma_if comma) [] → (first is_comma tokens ≡ false) × (is_clause tokens ≡ false)
+    → SpellsTree tokens (spell_entries es ++ comma_if comma) [] → (first is_comma tokens ≡ false) × (is_clause tokens ≡ false)
 text_begins no_entries true tokens known right h = absurd right
 text_begins no_entries false tokens known right h = (ap (first is_comma) h.follows, ap is_clause h.follows)
 text_begins (entry e es) comma tokens known right h =
@@ -103,7 +103,7 @@ record PackageSeen (clause : Package) (tokens rest : List Token) : Type 0 where
   its_comma : first is_comma (behind (behind tokens)) ≡ clause.comma
   behind_it : behind_comma (behind (behind tokens)) ≡ rest
 
-package_seen : (clause : Package) (tokens rest : List Token) → Reads tokens (spell_package (Some clause)) rest → first is_comma rest ≡ false
+package_seen : (clause : Package) (tokens rest : List Token) → SpellsTree tokens (spell_package (Some clause)) rest → first is_comma rest ≡ false
     → PackageSeen clause tokens rest
 package_seen clause tokens rest h no_comma =
     let word = headed (kinds.Name (codes "package")) (one (identifier_kind clause.name) ++ comma_if clause.comma) h in
@@ -125,7 +125,7 @@ abbrev tree_of : Option Package → Entries → Bool → FileTree
 tree_of clause es comma = record { package_clause = clause; declarations = es; comma = comma }
 
 file_known : (n : ℕ) (clause : Option Package) (es : Entries) (comma : Bool) (tokens : List Token) → AreKnownEntries es → EndsEntries comma es
-    → size_of_entries es ≤ n → Reads tokens (spell_package clause ++ spell_entries es ++ comma_if comma) [] → read_file (reader n) (is_clause tokens) tokens ≡ tree_of clause es comma
+    → size_of_entries es ≤ n → SpellsTree tokens (spell_package clause ++ spell_entries es ++ comma_if comma) [] → read_file (reader n) (is_clause tokens) tokens ≡ tree_of clause es comma
 file_known n None es comma tokens known right s h =
     let seen = text_seen n es comma tokens known s h in
     ap (λ (z : Bool). read_file (reader n) z tokens) (text_begins es comma tokens known right h).1
@@ -142,7 +142,7 @@ file_known n (Some clause) es comma tokens known right s h =
     ∙ ap (as_file (Some clause)) seen.reads
     ∙ ap (tree_of (Some clause) es) seen.comma_is
 
-file_read : {limit : Limit} {tokens : List Token} {file : FileTree} (n : ℕ) → IsFile limit tokens file → size_of_entries file.declarations ≤ n
+file_read : {limit : Limit} {tokens : List Token} {file : FileTree} (n : ℕ) → IsFileTree limit tokens file → size_of_entries file.declarations ≤ n
     → read_file (reader n) (is_clause tokens) tokens ≡ file
 file_read {tokens = tokens} {file = file} n is s =
     file_known n file.package_clause file.declarations file.comma tokens (all_entries file.declarations is.right) is.ends s is.reads

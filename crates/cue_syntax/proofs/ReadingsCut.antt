@@ -4,22 +4,22 @@ use Rattle.cue_lex.specs.declared.token.Token.{Token}
 use Rattle.cue_lex.specs.declared.token.TokenKind.{TokenKind}
 use Rattle.cue_lex.specs.declared.token.TokenKind.TheVariants as kinds
 use Rattle.cue_lex.specs.declared.punctuation.Punctuation.TheVariants as points
-use Rattle.cue_syntax.specs.Spelling.{Piece, Reads, Follows, one, one_at, placed, comma_if}
+use Rattle.cue_syntax.specs.Spelling.{SpelledPiece, SpellsTree, Follows, one, one_at, place_first, comma_if}
 use Rattle.cue_syntax.proofs.PartsByTheirTokens.{is_open, is_mark, is_and, is_or, is_comma, is_entry, first, behind, place, look, look_at, begins, goes_on_elements, goes_on_entries, behind_if, behind_comma}
 
 -- where the tokens of one row of pieces end and those of another begin
-pub record Cut (a : List Token) (p q : List Piece) (c : List Token) : Type 0 where
+pub record Cut (a : List Token) (p q : List SpelledPiece) (c : List Token) : Type 0 where
   pub middle : List Token
-  pub left : Reads a p middle
-  pub right : Reads middle q c
+  pub left : SpellsTree a p middle
+  pub right : SpellsTree middle q c
 
-cut_follows : (a c : List Token) (p q : List Piece) → Follows a (p ++ q) c → (b : List Token) × Follows a p b × Follows b q c
+cut_follows : (a c : List Token) (p q : List SpelledPiece) → Follows a (p ++ q) c → (b : List Token) × Follows a p b × Follows b q c
 cut_follows a c [] q h = (a, refl, h)
 cut_follows [] c (x ∷ p) q h = absurd h
 cut_follows (t ∷ a) c (x ∷ p) q h = let s = cut_follows a c p q h.2 in (s.0, (h.0, h.1, s.1), s.2)
 
 -- tokens that two rows of pieces spell can be cut between them
-pub cut : {a c : List Token} (p q : List Piece) → Reads a (p ++ q) c → Cut a p q c
+pub cut : {a c : List Token} (p q : List SpelledPiece) → SpellsTree a (p ++ q) c → Cut a p q c
 cut p q h =
     let s = cut_follows _ _ p q h.follows in
     record { middle = s.0; left = record { follows = s.1 }; right = record { follows = s.2 } }
@@ -31,51 +31,51 @@ pub record Head (a : List Token) (kind : TokenKind) (rest : List Token) : Type 0
   pub kind_is : token.kind ≡ kind
 
 -- and the pieces after it
-pub record Headed (a : List Token) (kind : TokenKind) (q : List Piece) (c : List Token) : Type 0 where
+pub record Headed (a : List Token) (kind : TokenKind) (q : List SpelledPiece) (c : List Token) : Type 0 where
   pub middle : List Token
   pub head : Head a kind middle
-  pub right : Reads middle q c
+  pub right : SpellsTree middle q c
 
-head_of : (a c : List Token) (kind : TokenKind) (q : List Piece) → Follows a (one kind ++ q) c → Headed a kind q c
+head_of : (a c : List Token) (kind : TokenKind) (q : List SpelledPiece) → Follows a (one kind ++ q) c → Headed a kind q c
 head_of [] c kind q h = absurd h
 head_of (t ∷ a) c kind q h = record { middle = a; head = record { token = t; is = refl; kind_is = h.0 }; right = record { follows = h.2 } }
 
 -- tokens that a piece and others spell begin with a token of its kind
-pub headed : {a c : List Token} (kind : TokenKind) (q : List Piece) → Reads a (one kind ++ q) c → Headed a kind q c
+pub headed : {a c : List Token} (kind : TokenKind) (q : List SpelledPiece) → SpellsTree a (one kind ++ q) c → Headed a kind q c
 headed kind q h = head_of _ _ kind q h.follows
 
 -- tokens that one piece spells are one token of its kind
-pub lone : {a c : List Token} (kind : TokenKind) → Reads a (one kind) c → Head a kind c
+pub lone : {a c : List Token} (kind : TokenKind) → SpellsTree a (one kind) c → Head a kind c
 lone {a = a} {c = c} kind h = let t = headed kind [] h in subst (λ (z : List Token). Head a kind z) t.right.follows t.head
 
-place_follows : (a c : List Token) (from : ℕ) (kind : TokenKind) (q : List Piece) → Follows a (one_at from kind ++ q) c → place a ≡ from
+place_follows : (a c : List Token) (from : ℕ) (kind : TokenKind) (q : List SpelledPiece) → Follows a (one_at from kind ++ q) c → place a ≡ from
 place_follows [] c from kind q h = absurd h
 place_follows (t ∷ a) c from kind q h = h.1.0
 
-unplaced_follows : (a c : List Token) (from : ℕ) (kind : TokenKind) (q : List Piece) → Follows a (one_at from kind ++ q) c → Follows a (one kind ++ q) c
+unplaced_follows : (a c : List Token) (from : ℕ) (kind : TokenKind) (q : List SpelledPiece) → Follows a (one_at from kind ++ q) c → Follows a (one kind ++ q) c
 unplaced_follows [] c from kind q h = absurd h
 unplaced_follows (t ∷ a) c from kind q h = (h.0, tt, h.2)
 
 -- the first token stands at the place that the first piece keeps
-pub place_is : {a c : List Token} (from : ℕ) (kind : TokenKind) (q : List Piece) → Reads a (one_at from kind ++ q) c → place a ≡ from
+pub place_is : {a c : List Token} (from : ℕ) (kind : TokenKind) (q : List SpelledPiece) → SpellsTree a (one_at from kind ++ q) c → place a ≡ from
 place_is from kind q h = place_follows _ _ from kind q h.follows
 
 -- what is read with the place of the first piece is read without it
-pub unplaced : {a c : List Token} (from : ℕ) (kind : TokenKind) (q : List Piece) → Reads a (one_at from kind ++ q) c → Reads a (one kind ++ q) c
+pub unplaced : {a c : List Token} (from : ℕ) (kind : TokenKind) (q : List SpelledPiece) → SpellsTree a (one_at from kind ++ q) c → SpellsTree a (one kind ++ q) c
 unplaced from kind q h = record { follows = unplaced_follows _ _ from kind q h.follows }
 
 -- the place of a term
-placed_follows : (a c : List Token) (from : ℕ) (p : List Piece) → (p ≡ [] → ⊥) → Follows a (placed from p) c → (place a ≡ from) × Follows a p c
+placed_follows : (a c : List Token) (from : ℕ) (p : List SpelledPiece) → (p ≡ [] → ⊥) → Follows a (place_first from p) c → (place a ≡ from) × Follows a p c
 placed_follows a c from [] some h = absurd (some refl)
 placed_follows [] c from (x ∷ p) some h = absurd h
 placed_follows (t ∷ a) c from (x ∷ p) some h = (h.1.0, (h.0, h.1.1, h.2))
 
 -- the first token stands at the place that pieces are given
-pub placed_place : {a c : List Token} (from : ℕ) (p : List Piece) → (p ≡ [] → ⊥) → Reads a (placed from p) c → place a ≡ from
+pub placed_place : {a c : List Token} (from : ℕ) (p : List SpelledPiece) → (p ≡ [] → ⊥) → SpellsTree a (place_first from p) c → place a ≡ from
 placed_place from p some h = (placed_follows _ _ from p some h.follows).0
 
 -- what is read with a place that pieces are given is read without it
-pub placed_reads : {a c : List Token} (from : ℕ) (p : List Piece) → (p ≡ [] → ⊥) → Reads a (placed from p) c → Reads a p c
+pub placed_reads : {a c : List Token} (from : ℕ) (p : List SpelledPiece) → (p ≡ [] → ⊥) → SpellsTree a (place_first from p) c → SpellsTree a p c
 placed_reads from p some h = record { follows = (placed_follows _ _ from p some h.follows).1 }
 
 -- what is seen of the first token
@@ -142,17 +142,17 @@ pub behind_a_comma : {a c : List Token} → Head a (kinds.Mark points.Comma) c �
 behind_a_comma {a = a} h = ap (λ (b : Bool). behind_if b a) (head_first is_comma h) ∙ head_behind h
 
 -- whether a comma was read is seen, where none comes after it
-pub comma_seen : {a b : List Token} (comma : Bool) → Reads a (comma_if comma) b → first is_comma b ≡ false → first is_comma a ≡ comma
+pub comma_seen : {a b : List Token} (comma : Bool) → SpellsTree a (comma_if comma) b → first is_comma b ≡ false → first is_comma a ≡ comma
 comma_seen true h none = head_first is_comma (lone (kinds.Mark points.Comma) h)
 comma_seen false h none = ap (first is_comma) h.follows ∙ none
 
 -- behind a comma or none are the tokens after it, where no other comes
-pub comma_behind : {a b : List Token} (comma : Bool) → Reads a (comma_if comma) b → first is_comma b ≡ false → behind_comma a ≡ b
+pub comma_behind : {a b : List Token} (comma : Bool) → SpellsTree a (comma_if comma) b → first is_comma b ≡ false → behind_comma a ≡ b
 comma_behind true h none = behind_a_comma (lone (kinds.Mark points.Comma) h)
 comma_behind false h none = ap behind_comma h.follows ∙ behind_no_comma none
 
 -- a comma or none, before what may follow an expression, may follow one too
-pub comma_ends : {a b : List Token} (comma : Bool) → Reads a (comma_if comma) b → EndsExpression b → EndsExpression a
+pub comma_ends : {a b : List Token} (comma : Bool) → SpellsTree a (comma_if comma) b → EndsExpression b → EndsExpression a
 comma_ends true h k = ends (lone (kinds.Mark points.Comma) h) comma_end
 comma_ends false h k = subst EndsExpression (sym h.follows) k
 
@@ -169,7 +169,7 @@ pub record EndsEntriesRow (b : List Token) : Type 0 where
   pub ends : EndsExpression b
 
 -- after the row comes a comma, or none, and then nothing that goes on
-pub elements_row : {a b : List Token} (comma : Bool) → Reads a (comma_if comma) b → begins (look b) ≡ false → first is_comma b ≡ false
+pub elements_row : {a b : List Token} (comma : Bool) → SpellsTree a (comma_if comma) b → begins (look b) ≡ false → first is_comma b ≡ false
     → EndsExpression b → EndsElementsRow a
 elements_row {a = a} true h none no_comma k =
     let head = lone (kinds.Mark points.Comma) h in
@@ -183,7 +183,7 @@ elements_row {a = a} {b = b} false h none no_comma k =
     subst EndsElementsRow (sym h.follows) (record { over = ap (λ (c : Bool). c && begins (look (behind b))) no_comma; none = none; ends = k })
 
 -- the same of declarations
-pub entries_row : {a b : List Token} (comma : Bool) → Reads a (comma_if comma) b → first is_entry b ≡ false → first is_comma b ≡ false
+pub entries_row : {a b : List Token} (comma : Bool) → SpellsTree a (comma_if comma) b → first is_entry b ≡ false → first is_comma b ≡ false
     → EndsExpression b → EndsEntriesRow a
 entries_row {a = a} true h none no_comma k =
     let head = lone (kinds.Mark points.Comma) h in

@@ -9,7 +9,7 @@ use Rattle.cue_syntax.specs.declared.tree.LabelName.{LabelName}
 use Rattle.cue_syntax.specs.declared.tree.LabelName.TheVariants as names
 use Rattle.cue_syntax.specs.declared.tree.Mark.{Mark}
 use Rattle.cue_syntax.specs.declared.tree.Mark.TheVariants as marks
-use Rattle.cue_syntax.specs.Spelling.{Reads, one, placed, label_kind, spell_mark, spell_label, spell, spell_more_elements, spell_branch, spell_more_branches, spell_entry}
+use Rattle.cue_syntax.specs.Spelling.{SpellsTree, one, place_first, label_kind, spell_mark, spell_label, spell, spell_more_elements, spell_branch, spell_more_branches, spell_entry}
 use Rattle.cue_syntax.specs.Grammar.{IsUnary, IsConjunct, IsTerm, AreUnary, TwoElements, TwoBranches}
 use Rattle.cue_syntax.specs.Syntax.{Expression, conjunction, disjunction, Elements, no_elements, element, branch, Branches, no_branches, next_branch, ellipsis, field, definition}
 use Rattle.cue_syntax.proofs.PartsByTheirTokens.{is_mark, is_name, is_comma, is_entry, is_clause, first, behind, place, look, look_at, other, begins, is_starred, label_name_of, label_name_at, mark_of, mark_at, behind_mark, behind_mark_at, label_of, behind_label}
@@ -96,16 +96,16 @@ conjunction_knows (element d (element e es)) known unary two =
 
 some_pieces : (e : Expression) → Knows e → spell e ≡ [] → ⊥
 some_pieces e known none =
-    let here : Reads [] (spell e) [] = rw none (record { follows = refl }) in
+    let here : SpellsTree [] (spell e) [] = rw none (record { follows = refl }) in
     let open_end : EndsUnary [] = record { no_open = refl; no_mark = refl } in
     let wrong : false ≡ true = known.begins [] [] here open_end in
     cc
 
 branch_reads : (marked : Bool) (from : ℕ) (e : Expression) → Knows e → IsTerm marked e → (n : ℕ) (a c : List Token)
-    → Reads a (spell_branch (branch marked from e)) c → EndsConjunct c → 3 + size e ≤ n → (reader n).term a ≡ (branch marked from e, c)
+    → SpellsTree a (spell_branch (branch marked from e)) c → EndsConjunct c → 3 + size e ≤ n → (reader n).term a ≡ (branch marked from e, c)
 branch_reads marked from e known fits zero a c h k s = absurd (omega (arith, s))
 branch_reads true from e known fits (suc n) a c h k s =
-    let t = headed (kinds.Mark points.Star) (placed from (spell e)) h in
+    let t = headed (kinds.Mark points.Star) (place_first from (spell e)) h in
     let inner = placed_reads from (spell e) (some_pieces e known) t.right in
     ap (λ (z : Bool). read_term (reader n) z a) (ap is_starred (head_look t.head))
     ∙ ap (λ (z : List Token). as_branch true (place z) ((reader n).unary z)) (head_behind t.head)
@@ -117,9 +117,9 @@ branch_reads false from e known fits (suc n) a c h k s =
     ∙ ap (as_branch false (place a)) (known.conjunct fits n a c inner k (omega (arith, s)))
     ∙ ap (λ (p : ℕ). found (branch false p e) c) (placed_place from (spell e) (some_pieces e known) h)
 
-branch_begins : (marked : Bool) (from : ℕ) (e : Expression) → Knows e → (a c : List Token) → Reads a (spell_branch (branch marked from e)) c
+branch_begins : (marked : Bool) (from : ℕ) (e : Expression) → Knows e → (a c : List Token) → SpellsTree a (spell_branch (branch marked from e)) c
     → EndsUnary c → begins (look a) ≡ true
-branch_begins true from e known a c h k = ap begins (head_look (headed (kinds.Mark points.Star) (placed from (spell e)) h).head)
+branch_begins true from e known a c h k = ap begins (head_look (headed (kinds.Mark points.Star) (place_first from (spell e)) h).head)
 branch_begins false from e known a c h k = known.begins a c (placed_reads from (spell e) (some_pieces e known) h) k
 
 -- where the reader finds an expression, it finds the term with it
@@ -135,7 +135,7 @@ terms_whole (next_branch x (next_branch y bs)) known two (suc n) a b h k s =
     ap (read_expression (reader n)) (known.0.reads n a u.middle u.left (ends_terms (next_branch y bs) u.middle b u.right k.conjunct) (omega (arith, s)))
     ∙ ap (put_term x) (more_terms (next_branch y bs) known.1 n u.middle b u.right k (omega (arith, s)))
 
-terms_begin : (bs : Branches) → AreKnownBranches bs → TwoBranches bs → (a b : List Token) → Reads a (spell (disjunction bs)) b → EndsUnary b
+terms_begin : (bs : Branches) → AreKnownBranches bs → TwoBranches bs → (a b : List Token) → SpellsTree a (spell (disjunction bs)) b → EndsUnary b
     → begins (look a) ≡ true
 terms_begin no_branches known two a b h k = absurd two
 terms_begin (next_branch x no_branches) known two a b h k = absurd two
@@ -173,7 +173,7 @@ pub record MarkSeen (m : Mark) (a b : List Token) : Type 0 where
 mark_step : {a c : List Token} {kind : TokenKind} → Head a kind c → mark_of a ≡ mark_at kind
 mark_step h = ap mark_of h.is ∙ ap mark_at h.kind_is
 
-mark_seen : (m : Mark) (a b : List Token) → Reads a (spell_mark m ++ one (kinds.Mark points.Colon)) b → MarkSeen m a b
+mark_seen : (m : Mark) (a b : List Token) → SpellsTree a (spell_mark m ++ one (kinds.Mark points.Colon)) b → MarkSeen m a b
 mark_seen marks.Regular a b h =
     let t : Head a (kinds.Mark points.Colon) b = lone (kinds.Mark points.Colon) h in
     record { mark = mark_step t; behind_it = head_behind t; marked = head_first is_mark t }
@@ -196,7 +196,7 @@ pub record LabelSeen (l : Label) (a b : List Token) : Type 0 where
 abbrev labelled : LabelName → Mark → Label
 labelled i m = record { name = i; mark = m }
 
-label_seen : (l : Label) (a b : List Token) → Reads a (spell_label l) b → LabelSeen l a b
+label_seen : (l : Label) (a b : List Token) → SpellsTree a (spell_label l) b → LabelSeen l a b
 label_seen l a b h =
     let t = headed (label_kind l.name) (spell_mark l.mark ++ one (kinds.Mark points.Colon)) h in
     let m = mark_seen l.mark t.middle b t.right in
@@ -213,7 +213,7 @@ label_seen l a b h =
     }
 
 -- a value after labels
-value_known : (chain : List Label) (e : Expression) → Knows e → (n : ℕ) (a b : List Token) → Reads a (flat_map spell_label chain ++ spell e) b
+value_known : (chain : List Label) (e : Expression) → Knows e → (n : ℕ) (a b : List Token) → SpellsTree a (flat_map spell_label chain ++ spell e) b
     → EndsExpression b → length chain + 4 + size e ≤ n → (reader n).value a ≡ (chain, e, b)
 value_known chain e known zero a b h k s = absurd (omega (arith, s))
 value_known [] e known (suc n) a b h k s =
@@ -237,7 +237,7 @@ entry_step {a = a} {c = c} n h =
     ∙ ap (λ (k : TokenKind). entry_at (reader n) k (h.token ∷ c)) h.kind_is
     ∙ ap (entry_at (reader n) _) (sym h.is)
 
-ellipsis_reads : (n : ℕ) (a b : List Token) → Reads a (one (kinds.Mark points.Ellipsis)) b → EndsExpression b → 1 ≤ n → (reader n).entry a ≡ (ellipsis, b)
+ellipsis_reads : (n : ℕ) (a b : List Token) → SpellsTree a (one (kinds.Mark points.Ellipsis)) b → EndsExpression b → 1 ≤ n → (reader n).entry a ≡ (ellipsis, b)
 ellipsis_reads zero a b h k s = absurd (omega (arith, s))
 ellipsis_reads (suc n) a b h k s =
     let head : Head a (kinds.Mark points.Ellipsis) b = lone (kinds.Mark points.Ellipsis) h in entry_step n head ∙ ap (found ellipsis) (head_behind head)
@@ -255,7 +255,7 @@ field_at : (i : LabelName) (r : Reader) (ts : List Token) → entry_at r (label_
 field_at (names.Plain t) r ts = refl
 field_at (names.Quoted t) r ts = refl
 
-field_reads : (l : Label) (chain : List Label) (e : Expression) → Knows e → (n : ℕ) (a b : List Token) → Reads a (spell_entry (field l chain e)) b
+field_reads : (l : Label) (chain : List Label) (e : Expression) → Knows e → (n : ℕ) (a b : List Token) → SpellsTree a (spell_entry (field l chain e)) b
     → EndsExpression b → size_of_entry (field l chain e) ≤ n → (reader n).entry a ≡ (field l chain e, b)
 field_reads l chain e known zero a b h k s = absurd (omega (arith, s))
 field_reads l chain e known (suc n) a b h k s =
@@ -268,7 +268,7 @@ field_reads l chain e known (suc n) a b h k s =
     ∙ ap (λ (z : List Token). as_field l ((reader n).value z)) seen.behind_it
     ∙ ap (as_field l) rest
 
-field_label : (l : Label) (chain : List Label) (e : Expression) (a b : List Token) → Reads a (spell_entry (field l chain e)) b
+field_label : (l : Label) (chain : List Label) (e : Expression) (a b : List Token) → SpellsTree a (spell_entry (field l chain e)) b
     → (c : List Token) × LabelSeen l a c
 field_label l chain e a b h =
     let u = cut (spell_label l ++ flat_map spell_label chain) (spell e) h in
@@ -302,14 +302,14 @@ field_knows l chain e known = record {
   no_clause = λ a b h. label_no_clause l a _ (field_label l chain e a b h).1;
 }
 
-definition_head : (t : List ℕ) (from : ℕ) (chain : List Label) (e : Expression) (a b : List Token) → Reads a (spell_entry (definition t from chain e)) b
+definition_head : (t : List ℕ) (from : ℕ) (chain : List Label) (e : Expression) (a b : List Token) → SpellsTree a (spell_entry (definition t from chain e)) b
     → Headed a (kinds.Definition t) (one (kinds.Mark points.Colon) ++ (flat_map spell_label chain ++ spell e)) b
 definition_head t from chain e a b h =
     let pieces = one (kinds.Mark points.Colon) ++ (flat_map spell_label chain ++ spell e) in
     headed (kinds.Definition t) pieces (unplaced from (kinds.Definition t) pieces h)
 
 definition_reads : (t : List ℕ) (from : ℕ) (chain : List Label) (e : Expression) → Knows e → (n : ℕ) (a b : List Token)
-    → Reads a (spell_entry (definition t from chain e)) b → EndsExpression b → size_of_entry (definition t from chain e) ≤ n
+    → SpellsTree a (spell_entry (definition t from chain e)) b → EndsExpression b → size_of_entry (definition t from chain e) ≤ n
     → (reader n).entry a ≡ (definition t from chain e, b)
 definition_reads t from chain e known zero a b h k s = absurd (omega (arith, s))
 definition_reads t from chain e known (suc n) a b h k s =

@@ -11,7 +11,7 @@ use Rattle.cue_syntax.specs.declared.tree.Sign.TheVariants as signs
 use Rattle.cue_syntax.specs.declared.tree.Signed.{Signed}
 use Rattle.cue_syntax.specs.declared.tree.Comparison.{Comparison}
 use Rattle.cue_syntax.specs.declared.tree.Comparison.TheVariants as comparisons
-use Rattle.cue_syntax.specs.Spelling.{Reads, one, comma_if, comparison_kind, spell, spell_sign, spell_signed, spell_elements, spell_entries, spell_rest, spell_dots}
+use Rattle.cue_syntax.specs.Spelling.{SpellsTree, one, comma_if, comparison_kind, spell, spell_sign, spell_signed, spell_elements, spell_entries, spell_rest, spell_dots}
 use Rattle.cue_syntax.specs.Syntax.{Expression, name, integer, text, bottom, bound, other_integer, other_text, parenthesis, struct, close, list, Elements, no_elements, element, Entries, Rest, no_rest, any_rest, each_rest}
 use Rattle.cue_syntax.proofs.PartsByTheirTokens.{is_open, is_mark, is_comma, is_entry, is_text, is_ellipsis, first, behind, place, look, look_at, look_marked, plain, begins, behind_comma, magnitude, magnitude_at, signed, signed_at, text_of, text_at}
 use Rattle.cue_syntax.proofs.ReaderOfTrees.{Reader, reader, read_unary, unary_at, read_name, read_integer, read_bound, read_other, read_parenthesis, read_struct, read_close, read_close_end, read_list, read_list_end, read_rest, read_each, size, size_of_rest, size_of_entries}
@@ -20,7 +20,7 @@ use Rattle.cue_syntax.proofs.ReadsRows.{found, Knows, AreKnown, IsKnownRest, Are
 
 -- it is read where something may follow that ends an operand
 abbrev pub Answers : Expression → Type 0
-Answers e = (n : ℕ) (a b : List Token) → Reads a (spell e) b → EndsUnary b → size e ≤ suc n → ((reader (suc n)).unary a ≡ (e, b)) × (look a ≡ plain)
+Answers e = (n : ℕ) (a b : List Token) → SpellsTree a (spell e) b → EndsUnary b → size e ≤ suc n → ((reader (suc n)).unary a ≡ (e, b)) × (look a ≡ plain)
 
 unary_step : {a c : List Token} {kind : TokenKind} (n : ℕ) → Head a kind c → (reader (suc n)).unary a ≡ unary_at (reader n) kind (place a) c
 unary_step {a = a} {c = c} {kind = kind} n h =
@@ -62,7 +62,7 @@ magnitude_is m h = ap magnitude h.is ∙ ap magnitude_at h.kind_is
 abbrev of_parts : Sign → ℕ → Signed
 of_parts s m = record { sign = s; magnitude = m }
 
-signed_is : (s : Sign) (m : ℕ) (a b : List Token) → Reads a (spell_sign s ++ one (kinds.Integer m)) b → signed a ≡ (of_parts s m, b)
+signed_is : (s : Sign) (m : ℕ) (a b : List Token) → SpellsTree a (spell_sign s ++ one (kinds.Integer m)) b → signed a ≡ (of_parts s m, b)
 signed_is signs.Absent m a b h = signed_step (lone (kinds.Integer m) h)
 signed_is signs.Minus m a b h =
     let t = headed (kinds.Mark points.Minus) (one (kinds.Integer m)) h in
@@ -75,12 +75,12 @@ signed_is signs.Plus m a b h =
     signed_step t.head ∙ ap (λ (z : ℕ). found (of_parts signs.Plus z) (behind t.middle)) (magnitude_is m u)
     ∙ ap (found (of_parts signs.Plus m)) (head_behind u)
 
-signed_no_text : (s : Sign) (m : ℕ) (a b : List Token) → Reads a (spell_sign s ++ one (kinds.Integer m)) b → first is_text a ≡ false
+signed_no_text : (s : Sign) (m : ℕ) (a b : List Token) → SpellsTree a (spell_sign s ++ one (kinds.Integer m)) b → first is_text a ≡ false
 signed_no_text signs.Absent m a b h = head_first is_text (lone (kinds.Integer m) h)
 signed_no_text signs.Minus m a b h = head_first is_text (headed (kinds.Mark points.Minus) (one (kinds.Integer m)) h).head
 signed_no_text signs.Plus m a b h = head_first is_text (headed (kinds.Mark points.Plus) (one (kinds.Integer m)) h).head
 
-integer_step : (s : Sign) (m n : ℕ) (a b : List Token) → Reads a (spell_sign s ++ one (kinds.Integer m)) b
+integer_step : (s : Sign) (m n : ℕ) (a b : List Token) → SpellsTree a (spell_sign s ++ one (kinds.Integer m)) b
     → ((reader (suc n)).unary a ≡ read_integer (signed a)) × (look a ≡ plain)
 integer_step signs.Absent m n a b h =
     let head = lone (kinds.Integer m) h in (unary_step n head ∙ ap read_integer (sym (signed_step head)), head_look head)
@@ -154,7 +154,7 @@ pub record Closes (a : List Token) (comma : Bool) (b : List Token) : Type 0 wher
   pub behind_it : behind (behind_comma a) ≡ b
   pub ends : EndsExpression a
 
-closes : {a b c : List Token} {kind : TokenKind} (comma : Bool) → Reads a (comma_if comma) b → Head b kind c → is_comma kind ≡ false → IsEnd kind
+closes : {a b c : List Token} {kind : TokenKind} (comma : Bool) → SpellsTree a (comma_if comma) b → Head b kind c → is_comma kind ≡ false → IsEnd kind
     → Closes a comma c
 closes comma h last no_comma k =
     let none = head_first is_comma last ∙ no_comma in
@@ -182,7 +182,7 @@ pub record Braces (es : Entries) (comma : Bool) (n : ℕ) (a b : List Token) : T
 
 -- declarations up to a closing brace
 braces : {a b : List Token} (es : Entries) (comma : Bool) (n : ℕ) → AreKnownEntries es
-    → Reads a (spell_entries es ++ comma_if comma ++ one (kinds.Mark points.CloseBrace)) b → size_of_entries es ≤ n → Braces es comma n a b
+    → SpellsTree a (spell_entries es ++ comma_if comma ++ one (kinds.Mark points.CloseBrace)) b → size_of_entries es ≤ n → Braces es comma n a b
 braces {a = a} {b = b} es comma n known h s =
     let u = cut (spell_entries es ++ comma_if comma) (one (kinds.Mark points.CloseBrace)) h in
     let v = cut (spell_entries es) (comma_if comma) u.left in
@@ -229,8 +229,8 @@ close_answers from es inner comma known n a b h k s =
 
 -- the end of a list
 
-comma_reads : {a c : List Token} → Head a (kinds.Mark points.Comma) c → Reads a (comma_if true) c
-comma_reads {c = c} h = subst (λ (z : List Token). Reads z (comma_if true) c) (sym h.is) (record { follows = (h.kind_is, tt, refl) })
+comma_reads : {a c : List Token} → Head a (kinds.Mark points.Comma) c → SpellsTree a (comma_if true) c
+comma_reads {c = c} h = subst (λ (z : List Token). SpellsTree z (comma_if true) c) (sym h.is) (record { follows = (h.kind_is, tt, refl) })
 
 -- elements end here, and what stands here up to the bracket is read as the end of their list
 pub record ListEnds (n : ℕ) (es : Elements) (tail : Rest) (comma : Bool) (a b : List Token) : Type 0 where
@@ -241,11 +241,11 @@ pub record ListEnds (n : ℕ) (es : Elements) (tail : Rest) (comma : Bool) (a b 
 abbrev RestEnds : ℕ → Elements → Rest → Bool → List Token → List Token → Type 0
 RestEnds n es tail comma b d = read_rest (reader n) (begins (look b)) es b ≡ (list es tail comma, d)
 
-nothing_begins : {b c d : List Token} (comma : Bool) → Reads b (comma_if comma) c → Head c (kinds.Mark points.CloseBracket) d → begins (look b) ≡ false
+nothing_begins : {b c d : List Token} (comma : Bool) → SpellsTree b (comma_if comma) c → Head c (kinds.Mark points.CloseBracket) d → begins (look b) ≡ false
 nothing_begins true then last = ap begins (head_look (lone (kinds.Mark points.Comma) then))
 nothing_begins false then last = ap (λ (z : List Token). begins (look z)) then.follows ∙ ap begins (head_look last)
 
-rest_any : (n : ℕ) (es : Elements) (comma : Bool) (b c d : List Token) → Reads b (comma_if comma) c → Head c (kinds.Mark points.CloseBracket) d
+rest_any : (n : ℕ) (es : Elements) (comma : Bool) (b c d : List Token) → SpellsTree b (comma_if comma) c → Head c (kinds.Mark points.CloseBracket) d
     → RestEnds n es any_rest comma b d
 rest_any n es comma b c d then last =
     let end = closes comma then last refl bracket_end in
@@ -253,7 +253,7 @@ rest_any n es comma b c d then last =
     ∙ ap (λ (z : Bool). found (list es any_rest z) (behind (behind_comma b))) end.seen
     ∙ ap (found (list es any_rest comma)) end.behind_it
 
-rest_each : (n : ℕ) (es : Elements) (e : Expression) (comma : Bool) (b m c d : List Token) → Knows e → Reads b (spell e) m → Reads m (comma_if comma) c
+rest_each : (n : ℕ) (es : Elements) (e : Expression) (comma : Bool) (b m c d : List Token) → Knows e → SpellsTree b (spell e) m → SpellsTree m (comma_if comma) c
     → Head c (kinds.Mark points.CloseBracket) d → 3 + size e ≤ n → RestEnds n es (each_rest e) comma b d
 rest_each n es e comma b m c d known h then last s =
     let end = closes comma then last refl bracket_end in
@@ -271,12 +271,12 @@ list_goes_on n es tail comma seen a b d h inner =
     ∙ inner
 
 -- `...` stands here, after a comma where elements stand before it
-dots_end : (n : ℕ) (es : Elements) (tail : Rest) (comma : Bool) (a b d : List Token) → Reads a (spell_dots es) b → RestEnds n es tail comma b d
+dots_end : (n : ℕ) (es : Elements) (tail : Rest) (comma : Bool) (a b d : List Token) → SpellsTree a (spell_dots es) b → RestEnds n es tail comma b d
     → ListEnds n es tail comma a d
 dots_end n no_elements tail comma a b d h inner =
     let dots : Head a (kinds.Mark points.Ellipsis) b = lone (kinds.Mark points.Ellipsis) h in
     let no_comma : first is_comma a ≡ false = head_first is_comma dots in
-    let here : Reads a (comma_if false) a = record { follows = refl } in
+    let here : SpellsTree a (comma_if false) a = record { follows = refl } in
     record {
       row = elements_row false here (ap begins (head_look dots)) no_comma (ends dots ellipsis_end);
       reads = ap (λ (z : List Token). read_list_end (reader n) (first is_ellipsis z) (first is_comma a) no_elements z) (behind_no_comma no_comma)
@@ -291,8 +291,8 @@ dots_end n (element e es) tail comma a b d h inner =
           ∙ list_goes_on n (element e es) tail comma (first is_comma a) t.middle b d dots inner;
     }
 
-list_ends : (n : ℕ) (es : Elements) (tail : Rest) (comma : Bool) (a b c d : List Token) → IsKnownRest tail → 3 + size_of_rest tail ≤ n → Reads a (spell_rest es tail) b
-    → Reads b (comma_if comma) c → Head c (kinds.Mark points.CloseBracket) d → ListEnds n es tail comma a d
+list_ends : (n : ℕ) (es : Elements) (tail : Rest) (comma : Bool) (a b c d : List Token) → IsKnownRest tail → 3 + size_of_rest tail ≤ n → SpellsTree a (spell_rest es tail) b
+    → SpellsTree b (comma_if comma) c → Head c (kinds.Mark points.CloseBracket) d → ListEnds n es tail comma a d
 list_ends n es no_rest comma a b c d known s h then last =
     let no_comma : first is_comma c ≡ false = head_first is_comma last in
     let past = comma_behind comma then no_comma in

@@ -3,7 +3,7 @@ use Rattle.std.proofs.Common.{◌≡◌, ◌∙◌, ap, sym, subst, refl, ℕ, z
 use Rattle.cue_lex.specs.declared.token.Token.{Token}
 use Rattle.cue_lex.specs.declared.token.TokenKind.TheVariants as kinds
 use Rattle.cue_lex.specs.declared.punctuation.Punctuation.TheVariants as points
-use Rattle.cue_syntax.specs.Spelling.{Reads, spell, spell_elements, spell_more_elements, spell_branch, spell_more_branches, spell_entry, spell_entries, spell_more_entries}
+use Rattle.cue_syntax.specs.Spelling.{SpellsTree, spell, spell_elements, spell_more_elements, spell_branch, spell_more_branches, spell_entry, spell_entries, spell_more_entries}
 use Rattle.cue_syntax.specs.Grammar.{IsUnary, IsConjunct, AreUnary}
 use Rattle.cue_syntax.specs.Syntax.{Expression, Elements, no_elements, element, Rest, each_rest, Branch, Branches, no_branches, next_branch, Entry, Entries, no_entries, entry}
 use Rattle.cue_syntax.proofs.PartsByTheirTokens.{is_and, is_or, is_comma, is_entry, first, behind, look, plain, begins, is_clause, goes_on_elements, goes_on_entries}
@@ -16,19 +16,19 @@ found e b = (e, b)
 
 -- what reading an expression is, as an operand or a bound, as a part of a disjunction, and by itself
 abbrev pub ReadsUnary : Expression → Type 0
-ReadsUnary e = (n : ℕ) (a b : List Token) → Reads a (spell e) b → EndsUnary b → size e ≤ n → (reader n).unary a ≡ (e, b)
+ReadsUnary e = (n : ℕ) (a b : List Token) → SpellsTree a (spell e) b → EndsUnary b → size e ≤ n → (reader n).unary a ≡ (e, b)
 
 -- what reading it as a part of a disjunction is
 abbrev pub ReadsConjunct : Expression → Type 0
-ReadsConjunct e = (n : ℕ) (a b : List Token) → Reads a (spell e) b → EndsConjunct b → 1 + size e ≤ n → (reader n).conjunct a ≡ (e, b)
+ReadsConjunct e = (n : ℕ) (a b : List Token) → SpellsTree a (spell e) b → EndsConjunct b → 1 + size e ≤ n → (reader n).conjunct a ≡ (e, b)
 
 -- what reading it by itself is
 abbrev pub ReadsWhole : Expression → Type 0
-ReadsWhole e = (n : ℕ) (a b : List Token) → Reads a (spell e) b → EndsExpression b → 3 + size e ≤ n → (reader n).expression a ≡ (e, b)
+ReadsWhole e = (n : ℕ) (a b : List Token) → SpellsTree a (spell e) b → EndsExpression b → 3 + size e ≤ n → (reader n).expression a ≡ (e, b)
 
 -- tokens that spell it begin neither with a star nor as a label does
 abbrev pub LooksPlain : Expression → Type 0
-LooksPlain e = (a b : List Token) → Reads a (spell e) b → EndsUnary b → look a ≡ plain
+LooksPlain e = (a b : List Token) → SpellsTree a (spell e) b → EndsUnary b → look a ≡ plain
 
 -- the reader finds the expression wherever it may stand
 pub record Knows (e : Expression) : Type 0 where
@@ -36,19 +36,19 @@ pub record Knows (e : Expression) : Type 0 where
   pub conjunct : IsConjunct e → ReadsConjunct e
   pub whole : ReadsWhole e
   pub plain : IsConjunct e → LooksPlain e
-  pub begins : (a b : List Token) → Reads a (spell e) b → EndsUnary b → begins (look a) ≡ true
+  pub begins : (a b : List Token) → SpellsTree a (spell e) b → EndsUnary b → begins (look a) ≡ true
 
 -- the reader finds the term
 pub record KnowsBranch (b : Branch) : Type 0 where
-  pub reads : (n : ℕ) (a c : List Token) → Reads a (spell_branch b) c → EndsConjunct c → size_of_branch b ≤ n → (reader n).term a ≡ (b, c)
-  pub begins : (a c : List Token) → Reads a (spell_branch b) c → EndsUnary c → begins (look a) ≡ true
+  pub reads : (n : ℕ) (a c : List Token) → SpellsTree a (spell_branch b) c → EndsConjunct c → size_of_branch b ≤ n → (reader n).term a ≡ (b, c)
+  pub begins : (a c : List Token) → SpellsTree a (spell_branch b) c → EndsUnary c → begins (look a) ≡ true
 
 -- the reader finds the declaration
 pub record KnowsEntry (e : Entry) : Type 0 where
-  pub reads : (n : ℕ) (a b : List Token) → Reads a (spell_entry e) b → EndsExpression b → size_of_entry e ≤ n → (reader n).entry a ≡ (e, b)
-  pub begins : (a b : List Token) → Reads a (spell_entry e) b → first is_entry a ≡ true
-  pub no_comma : (a b : List Token) → Reads a (spell_entry e) b → first is_comma a ≡ false
-  pub no_clause : (a b : List Token) → Reads a (spell_entry e) b → is_clause a ≡ false
+  pub reads : (n : ℕ) (a b : List Token) → SpellsTree a (spell_entry e) b → EndsExpression b → size_of_entry e ≤ n → (reader n).entry a ≡ (e, b)
+  pub begins : (a b : List Token) → SpellsTree a (spell_entry e) b → first is_entry a ≡ true
+  pub no_comma : (a b : List Token) → SpellsTree a (spell_entry e) b → first is_comma a ≡ false
+  pub no_clause : (a b : List Token) → SpellsTree a (spell_entry e) b → is_clause a ≡ false
 
 -- the reader finds each of the elements
 abbrev pub AreKnown : Elements → Type 0
@@ -78,12 +78,12 @@ no_more_parts zero b s none = absurd (omega arith)
 no_more_parts (suc n) b s none = ap (λ (z : Bool). read_parts (reader n) z b) none
 
 -- further parts or none, and then what may follow an operand or a bound, may follow one
-pub ends_parts : (es : Elements) (b c : List Token) → Reads b (spell_more_elements (kinds.Mark points.Ampersand) es) c → EndsUnary c → EndsUnary b
+pub ends_parts : (es : Elements) (b c : List Token) → SpellsTree b (spell_more_elements (kinds.Mark points.Ampersand) es) c → EndsUnary c → EndsUnary b
 ends_parts no_elements b c h k = subst EndsUnary (sym h.follows) k
 ends_parts (element e es) b c h k = unary_ends (headed (kinds.Mark points.Ampersand) (spell e ++ spell_more_elements (kinds.Mark points.Ampersand) es) h).head refl refl
 
 -- the reader finds further parts up to what may follow them
-pub more_parts : (es : Elements) → AreKnown es → AreUnary es → (n : ℕ) (a b : List Token) → Reads a (spell_more_elements (kinds.Mark points.Ampersand) es) b
+pub more_parts : (es : Elements) → AreKnown es → AreUnary es → (n : ℕ) (a b : List Token) → SpellsTree a (spell_more_elements (kinds.Mark points.Ampersand) es) b
     → EndsConjunct b → size_of_elements es ≤ n → (reader n).parts a ≡ (es, b)
 more_parts no_elements known unary n a b h k s =
     subst (λ (z : List Token). (reader n).parts z ≡ found no_elements b) (sym h.follows) (no_more_parts n b (omega (arith, s)) k.no_and)
@@ -106,12 +106,12 @@ no_more_terms zero b s none = absurd (omega arith)
 no_more_terms (suc n) b s none = ap (λ (z : Bool). read_terms (reader n) z b) none
 
 -- further terms or none, and then what may follow a part of a disjunction, may follow one
-pub ends_terms : (bs : Branches) (b c : List Token) → Reads b (spell_more_branches bs) c → EndsConjunct c → EndsConjunct b
+pub ends_terms : (bs : Branches) (b c : List Token) → SpellsTree b (spell_more_branches bs) c → EndsConjunct c → EndsConjunct b
 ends_terms no_branches b c h k = subst EndsConjunct (sym h.follows) k
 ends_terms (next_branch x bs) b c h k = conjunct_ends (headed (kinds.Mark points.Bar) (spell_branch x ++ spell_more_branches bs) h).head refl refl refl
 
 -- the reader finds further terms up to what may follow them
-pub more_terms : (bs : Branches) → AreKnownBranches bs → (n : ℕ) (a b : List Token) → Reads a (spell_more_branches bs) b
+pub more_terms : (bs : Branches) → AreKnownBranches bs → (n : ℕ) (a b : List Token) → SpellsTree a (spell_more_branches bs) b
     → EndsExpression b → size_of_branches bs ≤ n → (reader n).terms a ≡ (bs, b)
 more_terms no_branches known n a b h k s =
     subst (λ (z : List Token). (reader n).terms z ≡ found no_branches b) (sym h.follows) (no_more_terms n b (omega (arith, s)) k.no_or)
@@ -128,7 +128,7 @@ more_terms (next_branch x bs) known (suc n) a b h k s =
 
 -- elements
 
-ends_elements : (es : Elements) (b c : List Token) → Reads b (spell_more_elements (kinds.Mark points.Comma) es) c → EndsExpression c → EndsExpression b
+ends_elements : (es : Elements) (b c : List Token) → SpellsTree b (spell_more_elements (kinds.Mark points.Comma) es) c → EndsExpression c → EndsExpression b
 ends_elements no_elements b c h k = subst EndsExpression (sym h.follows) k
 ends_elements (element e es) b c h k = ends (headed (kinds.Mark points.Comma) (spell e ++ spell_more_elements (kinds.Mark points.Comma) es) h).head comma_end
 
@@ -136,7 +136,7 @@ no_more_elements : (n : ℕ) (b : List Token) → 1 ≤ n → goes_on_elements b
 no_more_elements zero b s none = absurd (omega arith)
 no_more_elements (suc n) b s none = ap (λ (z : Bool). read_more_elements (reader n) z b) none
 
-more_elements : (es : Elements) → AreKnown es → (n : ℕ) (a b : List Token) → Reads a (spell_more_elements (kinds.Mark points.Comma) es) b
+more_elements : (es : Elements) → AreKnown es → (n : ℕ) (a b : List Token) → SpellsTree a (spell_more_elements (kinds.Mark points.Comma) es) b
     → EndsElementsRow b → size_of_elements es ≤ n → (reader n).more_elements a ≡ (es, b)
 more_elements no_elements known n a b h k s =
     subst (λ (z : List Token). (reader n).more_elements z ≡ found no_elements b) (sym h.follows) (no_more_elements n b (omega (arith, s)) k.over)
@@ -155,7 +155,7 @@ more_elements (element e es) known (suc n) a b h k s =
     ∙ ap (put_element e) rest
 
 -- the reader finds elements up to what may follow them
-pub elements_known : (es : Elements) → AreKnown es → (n : ℕ) (a b : List Token) → Reads a (spell_elements (kinds.Mark points.Comma) es) b
+pub elements_known : (es : Elements) → AreKnown es → (n : ℕ) (a b : List Token) → SpellsTree a (spell_elements (kinds.Mark points.Comma) es) b
     → EndsElementsRow b → size_of_elements es ≤ n → (reader n).elements a ≡ (es, b)
 elements_known no_elements known zero a b h k s = absurd (omega (arith, s))
 elements_known (element e es) known zero a b h k s = absurd (omega (arith, s))
@@ -172,7 +172,7 @@ elements_known (element e es) known (suc n) a b h k s =
 
 -- declarations
 
-ends_entries : (es : Entries) (b c : List Token) → Reads b (spell_more_entries es) c → EndsExpression c → EndsExpression b
+ends_entries : (es : Entries) (b c : List Token) → SpellsTree b (spell_more_entries es) c → EndsExpression c → EndsExpression b
 ends_entries no_entries b c h k = subst EndsExpression (sym h.follows) k
 ends_entries (entry e es) b c h k = ends (headed (kinds.Mark points.Comma) (spell_entry e ++ spell_more_entries es) h).head comma_end
 
@@ -180,7 +180,7 @@ no_more_entries : (n : ℕ) (b : List Token) → 1 ≤ n → goes_on_entries b �
 no_more_entries zero b s none = absurd (omega arith)
 no_more_entries (suc n) b s none = ap (λ (z : Bool). read_more_entries (reader n) z b) none
 
-more_entries : (es : Entries) → AreKnownEntries es → (n : ℕ) (a b : List Token) → Reads a (spell_more_entries es) b
+more_entries : (es : Entries) → AreKnownEntries es → (n : ℕ) (a b : List Token) → SpellsTree a (spell_more_entries es) b
     → EndsEntriesRow b → size_of_entries es ≤ n → (reader n).more_entries a ≡ (es, b)
 more_entries no_entries known n a b h k s =
     subst (λ (z : List Token). (reader n).more_entries z ≡ found no_entries b) (sym h.follows) (no_more_entries n b (omega (arith, s)) k.over)
@@ -198,7 +198,7 @@ more_entries (entry e es) known (suc n) a b h k s =
     ∙ ap (put_entry e) rest
 
 -- the reader finds declarations up to what may follow them
-pub entries_known : (es : Entries) → AreKnownEntries es → (n : ℕ) (a b : List Token) → Reads a (spell_entries es) b
+pub entries_known : (es : Entries) → AreKnownEntries es → (n : ℕ) (a b : List Token) → SpellsTree a (spell_entries es) b
     → EndsEntriesRow b → size_of_entries es ≤ n → (reader n).entries a ≡ (es, b)
 entries_known no_entries known zero a b h k s = absurd (omega (arith, s))
 entries_known (entry e es) known zero a b h k s = absurd (omega (arith, s))

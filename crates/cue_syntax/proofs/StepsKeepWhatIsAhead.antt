@@ -13,8 +13,8 @@ use Rattle.cue_syntax.specs.declared.tree.Mark.TheVariants as marks
 use Rattle.cue_syntax.specs.declared.tree.Sign.{Sign}
 use Rattle.cue_syntax.specs.declared.tree.Sign.TheVariants as signs
 use Rattle.cue_syntax.specs.Syntax.{no_elements, no_branches}
-use Rattle.cue_syntax.specs.Grammar.{Limit, greatest}
-use Rattle.cue_syntax.specs.Recogniser.{Goal, Stack, is_word, is_keyword, take_mark, take_name, take_integer, take_unary, take_term, take_expression, take_value, take_signed, take_behind_operand, take_behind_name, take_value_name, take_value_text, take}
+use Rattle.cue_syntax.specs.Grammar.{Limit, greatest_magnitude}
+use Rattle.cue_syntax.specs.Recogniser.{Goal, Stack, is_word, is_keyword, take_mark, take_name, take_integer, take_unary, take_term, take_expression, take_value, take_signed, take_behind_operand, take_behind_name, take_value_name, take_value_text, take_token}
 use Rattle.cue_syntax.proofs.ReadingsJoin.{reads_none}
 use Rattle.cue_syntax.proofs.StillToRead.{beneath, Keeps, Valued, MoreParts, MoreTerms, Ahead}
 use Rattle.cue_syntax.proofs.EachStackEnds.{keeps_from, reads_kind}
@@ -54,12 +54,12 @@ name_before limit t goals w kind keeps = by_word (is_keyword w) refl (is_word (c
     by_word false is true closes = λ a ahead. (ahead.0, ahead.1 t (kind ∙ ap kinds.Name (word_is (codes "close") w closes)), ahead.2)
     by_word false is false closes = λ a ahead. (a, name_unary t w kind is keeps, ahead)
 
-integer_before : (limit : Limit) (t : Token) (n : ℕ) (sign : Sign) (goals others : Stack) → (n ≤ greatest sign → (a : List Token) → Ahead limit goals a → Ahead limit others (t ∷ a))
+integer_before : (limit : Limit) (t : Token) (n : ℕ) (sign : Sign) (goals others : Stack) → (n ≤ greatest_magnitude sign → (a : List Token) → Ahead limit goals a → Ahead limit others (t ∷ a))
     → Before limit t others (take_integer sign goals n)
-integer_before limit t n sign goals others reads = by_range (nat_le n (greatest sign)) refl
+integer_before limit t n sign goals others reads = by_range (nat_le n (greatest_magnitude sign)) refl
   where
-    by_range : (fits : Bool) → nat_le n (greatest sign) ≡ fits → Before limit t others (if fits then Some goals else None)
-    by_range true fits = reads (leb-true n (greatest sign) fits)
+    by_range : (fits : Bool) → nat_le n (greatest_magnitude sign) ≡ fits → Before limit t others (if fits then Some goals else None)
+    by_range true fits = reads (leb-true n (greatest_magnitude sign) fits)
     by_range false fits = tt
 
 -- a token that an operand takes, and what is ahead after it, were ahead of the operand
@@ -91,12 +91,12 @@ signed_before limit t goals _ is = tt
 
 -- a token that is taken after `!=`, and what is ahead after it, were ahead there
 pub signed_or_text_before : (limit : Limit) (t : Token) (goals : Stack) (behind : Option Stack) (kind : TokenKind) → t.kind ≡ kind
-    → Before limit t (Goal.signed_or_text ∷ goals) (take Goal.signed_or_text goals behind kind)
+    → Before limit t (Goal.signed_or_text ∷ goals) (take_token Goal.signed_or_text goals behind kind)
 signed_or_text_before limit t goals behind (kinds.Text w) is = λ a ahead. (a, inr (record { part = w; reads = reads_kind t is reads_none }), ahead)
 signed_or_text_before limit t goals behind kind is = through limit t (Goal.signed ∷ goals) (Goal.signed_or_text ∷ goals) (take_signed goals kind) (λ a ahead. (ahead.0, inl ahead.1, ahead.2)) (signed_before limit t goals kind is)
 
 -- a token that is taken after a sign, and what is ahead after it, were ahead there
-pub magnitude_before : (limit : Limit) (t : Token) (sign : Sign) (goals : Stack) (behind : Option Stack) (kind : TokenKind) → t.kind ≡ kind → Before limit t (Goal.magnitude sign ∷ goals) (take (Goal.magnitude sign) goals behind kind)
+pub magnitude_before : (limit : Limit) (t : Token) (sign : Sign) (goals : Stack) (behind : Option Stack) (kind : TokenKind) → t.kind ≡ kind → Before limit t (Goal.magnitude sign ∷ goals) (take_token (Goal.magnitude sign) goals behind kind)
 magnitude_before limit t sign goals behind (kinds.Integer n) is = integer_before limit t n sign goals (Goal.magnitude sign ∷ goals) (λ range a ahead. (a, record { part = n; reads = reads_kind t is reads_none; range = range }, ahead))
 magnitude_before limit t sign goals behind _ is = tt
 
@@ -118,18 +118,18 @@ expression_before limit t goals kind is keeps =
 
 -- a token that further parts take or leave to those below, and what is ahead after it, were ahead of them
 pub more_parts_before : (limit : Limit) (t : Token) (goals : Stack) (behind : Option Stack) (kind : TokenKind) → t.kind ≡ kind → Keeps limit (beneath goals) → Before limit t goals behind
-    → Before limit t (Goal.more_parts ∷ goals) (take Goal.more_parts goals behind kind)
+    → Before limit t (Goal.more_parts ∷ goals) (take_token Goal.more_parts goals behind kind)
 more_parts_before limit t goals behind (kinds.Mark points.Ampersand) is keeps before = λ a ahead. (ahead.2.0, next_part t is ahead.1 ahead.2.1, ahead.2.2)
 more_parts_before limit t goals behind _ is keeps before = through limit t goals (Goal.more_parts ∷ goals) behind (λ a ahead. (a, no_parts keeps, ahead)) before
 
 -- a token that is taken after a marked first term, and what is ahead after it, were ahead there
-pub bar_before : (limit : Limit) (t : Token) (goals : Stack) (behind : Option Stack) (kind : TokenKind) → t.kind ≡ kind → Before limit t (Goal.bar ∷ goals) (take Goal.bar goals behind kind)
+pub bar_before : (limit : Limit) (t : Token) (goals : Stack) (behind : Option Stack) (kind : TokenKind) → t.kind ≡ kind → Before limit t (Goal.bar ∷ goals) (take_token Goal.bar goals behind kind)
 bar_before limit t goals behind (kinds.Mark points.Bar) is = λ a ahead. (ahead.2.0, next_term t is ahead.1 ahead.2.1, ahead.2.2)
 bar_before limit t goals behind _ is = tt
 
 -- a token that further terms take or leave to those below, and what is ahead after it, were ahead of them
 pub more_terms_before : (limit : Limit) (t : Token) (goals : Stack) (behind : Option Stack) (kind : TokenKind) → t.kind ≡ kind → Keeps limit (beneath goals) → Before limit t goals behind
-    → Before limit t (Goal.more_terms ∷ goals) (take Goal.more_terms goals behind kind)
+    → Before limit t (Goal.more_terms ∷ goals) (take_token Goal.more_terms goals behind kind)
 more_terms_before limit t goals behind (kinds.Mark points.Bar) is keeps before = λ a ahead. (ahead.2.0, some_terms (next_term t is ahead.1 ahead.2.1), ahead.2.2)
 more_terms_before limit t goals behind _ is keeps before = through limit t goals (Goal.more_terms ∷ goals) behind (λ a ahead. (a, no_terms keeps, ahead)) before
 
@@ -149,7 +149,7 @@ mark_before limit t goals (kinds.Mark points.Exclamation) is = λ a ahead. (ahea
 mark_before limit t goals _ is = tt
 
 -- a token that is taken as a colon, and what is ahead after it, were ahead there
-pub colon_before : (limit : Limit) (t : Token) (goals : Stack) (behind : Option Stack) (kind : TokenKind) → t.kind ≡ kind → Before limit t (Goal.colon ∷ goals) (take Goal.colon goals behind kind)
+pub colon_before : (limit : Limit) (t : Token) (goals : Stack) (behind : Option Stack) (kind : TokenKind) → t.kind ≡ kind → Before limit t (Goal.colon ∷ goals) (take_token Goal.colon goals behind kind)
 colon_before limit t goals behind (kinds.Mark points.Colon) is = λ a ahead. (a, reads_kind t is reads_none, ahead)
 colon_before limit t goals behind _ is = tt
 

@@ -8,7 +8,7 @@ use Rattle.cue_lex.specs.declared.punctuation.Punctuation.TheVariants as points
 use Rattle.cue_syntax.specs.declared.tree.Identifier.TheVariants as identifiers
 use Rattle.cue_syntax.specs.declared.tree.LabelName.TheVariants as names
 use Rattle.cue_syntax.specs.Grammar.{HidesDefinition, Limit}
-use Rattle.cue_syntax.specs.Recogniser.{Goal, Stack, is_word, hides_definition, take_mark, take_expression, take_entry, take_package, take_text, take_element, take_dots, take, step}
+use Rattle.cue_syntax.specs.Recogniser.{Goal, Stack, is_word, hides_definition, take_mark, take_expression, take_entry, take_package, take_text, take_element, take_dots, take_token, step_stack}
 use Rattle.cue_syntax.proofs.ReadingsJoin.{reads_none}
 use Rattle.cue_syntax.proofs.StillToRead.{inside, under, beneath, Keeps}
 use Rattle.cue_syntax.proofs.EachStackEnds.{keeps_from, reads_kind, less_below}
@@ -18,31 +18,31 @@ use Rattle.cue_syntax.proofs.StepsKeepWhatIsAhead.{Before, through, word_is, una
 
 -- the ends of parentheses and lists
 behind_close_before : (limit : Limit) (t : Token) (goals : Stack) (behind : Option Stack) (kind : TokenKind) → t.kind ≡ kind → Keeps limit (beneath goals) → Before limit t goals behind
-    → Before limit t (Goal.behind_close ∷ goals) (take Goal.behind_close goals behind kind)
+    → Before limit t (Goal.behind_close ∷ goals) (take_token Goal.behind_close goals behind kind)
 behind_close_before limit t goals behind (kinds.Mark points.OpenParenthesis) is keeps before = λ a ahead. (ahead.0, λ first kind. close_unary first t kind is ahead.1, ahead.2)
 behind_close_before limit t goals behind _ is keeps before =
     through limit t goals (Goal.behind_close ∷ goals) behind (λ a ahead. (a, λ first kind. name_unary first (codes "close") kind refl keeps, ahead)) before
 
-closed_before : (limit : Limit) (t : Token) (goals : Stack) (behind : Option Stack) (kind : TokenKind) → t.kind ≡ kind → Before limit t (Goal.closed ∷ goals) (take Goal.closed goals behind kind)
+closed_before : (limit : Limit) (t : Token) (goals : Stack) (behind : Option Stack) (kind : TokenKind) → t.kind ≡ kind → Before limit t (Goal.closed ∷ goals) (take_token Goal.closed goals behind kind)
 closed_before limit t goals behind (kinds.Mark points.OpenBrace) is = λ a ahead. (ahead.2.0, brace_closed (beneath goals) t is ahead.1 ahead.2.1, ahead.2.2)
 closed_before limit t goals behind _ is = tt
 
-parenthesis_before : (limit : Limit) (t : Token) (goals : Stack) (behind : Option Stack) (kind : TokenKind) → t.kind ≡ kind → Before limit t (Goal.parenthesis ∷ goals) (take Goal.parenthesis goals behind kind)
+parenthesis_before : (limit : Limit) (t : Token) (goals : Stack) (behind : Option Stack) (kind : TokenKind) → t.kind ≡ kind → Before limit t (Goal.parenthesis ∷ goals) (take_token Goal.parenthesis goals behind kind)
 parenthesis_before limit t goals behind (kinds.Mark points.Comma) is = λ a ahead. (ahead.0, record { part = true; reads = reads_kind t is ahead.1 }, ahead.2)
 parenthesis_before limit t goals behind (kinds.Mark points.CloseParenthesis) is = λ a ahead. (a, record { part = false; reads = reads_kind t is reads_none }, ahead)
 parenthesis_before limit t goals behind _ is = tt
 
 parenthesis_end_before : (limit : Limit) (t : Token) (goals : Stack) (behind : Option Stack) (kind : TokenKind) → t.kind ≡ kind
-    → Before limit t (Goal.parenthesis_end ∷ goals) (take Goal.parenthesis_end goals behind kind)
+    → Before limit t (Goal.parenthesis_end ∷ goals) (take_token Goal.parenthesis_end goals behind kind)
 parenthesis_end_before limit t goals behind (kinds.Mark points.CloseParenthesis) is = λ a ahead. (a, reads_kind t is reads_none, ahead)
 parenthesis_end_before limit t goals behind _ is = tt
 
-bracket_before : (limit : Limit) (t : Token) (goals : Stack) (behind : Option Stack) (kind : TokenKind) → t.kind ≡ kind → Before limit t (Goal.bracket ∷ goals) (take Goal.bracket goals behind kind)
+bracket_before : (limit : Limit) (t : Token) (goals : Stack) (behind : Option Stack) (kind : TokenKind) → t.kind ≡ kind → Before limit t (Goal.bracket ∷ goals) (take_token Goal.bracket goals behind kind)
 bracket_before limit t goals behind (kinds.Mark points.Comma) is = λ a ahead. (ahead.0, record { part = true; reads = reads_kind t is ahead.1 }, ahead.2)
 bracket_before limit t goals behind (kinds.Mark points.CloseBracket) is = λ a ahead. (a, record { part = false; reads = reads_kind t is reads_none }, ahead)
 bracket_before limit t goals behind _ is = tt
 
-bracket_end_before : (limit : Limit) (t : Token) (goals : Stack) (behind : Option Stack) (kind : TokenKind) → t.kind ≡ kind → Before limit t (Goal.bracket_end ∷ goals) (take Goal.bracket_end goals behind kind)
+bracket_end_before : (limit : Limit) (t : Token) (goals : Stack) (behind : Option Stack) (kind : TokenKind) → t.kind ≡ kind → Before limit t (Goal.bracket_end ∷ goals) (take_token Goal.bracket_end goals behind kind)
 bracket_end_before limit t goals behind (kinds.Mark points.CloseBracket) is = λ a ahead. (a, reads_kind t is reads_none, ahead)
 bracket_end_before limit t goals behind _ is = tt
 
@@ -63,7 +63,7 @@ elements_before limit t goals kind is keeps =
     (expression_before limit t (Goal.more_elements ∷ goals) kind is keeps)
 
 more_elements_before : (limit : Limit) (t : Token) (goals : Stack) (behind : Option Stack) (kind : TokenKind) → t.kind ≡ kind → Keeps limit (1 + beneath goals)
-    → Before limit t (Goal.more_elements ∷ goals) (take Goal.more_elements goals behind kind)
+    → Before limit t (Goal.more_elements ∷ goals) (take_token Goal.more_elements goals behind kind)
 more_elements_before limit t goals behind (kinds.Mark points.Comma) is keeps = λ a ahead. (ahead.0, comma_elements t is ahead.1, ahead.2)
 more_elements_before limit t goals behind (kinds.Mark points.CloseBracket) is keeps = λ a ahead. (a, bracket_more t is keeps, ahead)
 more_elements_before limit t goals behind _ is keeps = tt
@@ -80,13 +80,13 @@ entry_before limit t true goals _ is keeps = tt
 entry_before limit t false goals _ is keeps = tt
 
 entries_before : (limit : Limit) (t : Token) (top : Bool) (goals : Stack) (behind : Option Stack) (kind : TokenKind) → t.kind ≡ kind → Keeps limit (inside top (beneath goals))
-    → Before limit t (Goal.entries top ∷ goals) (take (Goal.entries top) goals behind kind)
+    → Before limit t (Goal.entries top ∷ goals) (take_token (Goal.entries top) goals behind kind)
 entries_before limit t false goals behind (kinds.Mark points.CloseBrace) is keeps = λ a ahead. (a, brace_entries t is keeps, ahead)
 entries_before limit t false goals behind kind is keeps = entry_before limit t false goals kind is keeps
 entries_before limit t true goals behind kind is keeps = entry_before limit t true goals kind is keeps
 
 more_entries_before : (limit : Limit) (t : Token) (top : Bool) (goals : Stack) (behind : Option Stack) (kind : TokenKind) → t.kind ≡ kind → Keeps limit (inside top (beneath goals))
-    → Before limit t (Goal.more_entries top ∷ goals) (take (Goal.more_entries top) goals behind kind)
+    → Before limit t (Goal.more_entries top ∷ goals) (take_token (Goal.more_entries top) goals behind kind)
 more_entries_before limit t true goals behind (kinds.Mark points.Comma) is keeps = λ a ahead. (ahead.0, comma_entries t is ahead.1, ahead.2)
 more_entries_before limit t true goals behind _ is keeps = tt
 more_entries_before limit t false goals behind (kinds.Mark points.Comma) is keeps = λ a ahead. (ahead.0, comma_entries t is ahead.1, ahead.2)
@@ -119,7 +119,7 @@ package_before limit t goals kind is =
     (λ a ahead. (ahead.2.2.0, λ first word. entries_whole (entry_entries (field_entry true first (names.Plain (codes "package")) word ahead.1 ahead.2.1) ahead.2.2.1), ahead.2.2.2))
     (mark_before limit t (Goal.value ∷ Goal.more_entries true ∷ goals) kind is)
 
-package_end_before : (limit : Limit) (t : Token) (goals : Stack) (behind : Option Stack) (kind : TokenKind) → t.kind ≡ kind → Before limit t (Goal.package_end ∷ goals) (take Goal.package_end goals behind kind)
+package_end_before : (limit : Limit) (t : Token) (goals : Stack) (behind : Option Stack) (kind : TokenKind) → t.kind ≡ kind → Before limit t (Goal.package_end ∷ goals) (take_token Goal.package_end goals behind kind)
 package_end_before limit t goals behind (kinds.Mark points.Comma) is = λ a ahead. (ahead.0, comma_package t is ahead.1, ahead.2)
 package_end_before limit t goals behind _ is = tt
 
@@ -136,7 +136,7 @@ text_before limit t goals kind is keeps =
 
 -- every goal
 take_before : (limit : Limit) (t : Token) (goal : Goal) (goals : Stack) (behind : Option Stack) (kind : TokenKind) → t.kind ≡ kind → Keeps limit (under goal (beneath goals)) → Keeps limit (beneath goals)
-    → Before limit t goals behind → Before limit t (goal ∷ goals) (take goal goals behind kind)
+    → Before limit t goals behind → Before limit t (goal ∷ goals) (take_token goal goals behind kind)
 take_before limit t Goal.text goals behind kind is keeps low before = text_before limit t goals kind is low
 take_before limit t Goal.package_word goals behind kind is keeps low before = package_before limit t goals kind is
 take_before limit t Goal.package_end goals behind kind is keeps low before = package_end_before limit t goals behind kind is
@@ -168,8 +168,8 @@ take_before limit t Goal.bracket goals behind kind is keeps low before = bracket
 take_before limit t Goal.bracket_end goals behind kind is keeps low before = bracket_end_before limit t goals behind kind is
 
 -- a token that a stack takes, and what is ahead after it, were ahead of the stack
-pub step_before : (limit : Limit) (t : Token) (goals : Stack) → Keeps limit (beneath goals) → Before limit t goals (step goals t.kind)
+pub step_before : (limit : Limit) (t : Token) (goals : Stack) → Keeps limit (beneath goals) → Before limit t goals (step_stack goals t.kind)
 step_before limit t [] keeps = tt
 step_before limit t (goal ∷ goals) keeps =
     let low : Keeps limit (beneath goals) = keeps_from keeps (less_below goal (beneath goals)) in
-    take_before limit t goal goals (step goals t.kind) t.kind refl keeps low (step_before limit t goals low)
+    take_before limit t goal goals (step_stack goals t.kind) t.kind refl keeps low (step_before limit t goals low)

@@ -10,8 +10,8 @@ use Rattle.cue_syntax.specs.declared.tree.Mark.{Mark}
 use Rattle.cue_syntax.specs.declared.tree.Sign.{Sign}
 use Rattle.cue_syntax.specs.declared.tree.Signed.{Signed}
 use Rattle.cue_syntax.specs.Syntax.{FileTree, Expression, Elements, Branch, Branches, next_branch, no_branches, Entry, Entries, no_entries, Rest, no_rest, any_rest, each_rest}
-use Rattle.cue_syntax.specs.Spelling.{Piece, Reads, one, comma_if, spell_mark, spell_signed, spell_label, spell_rest, spell, spell_elements, spell_more_elements, spell_branch, spell_more_branches, spell_entry, spell_entries, spell_more_entries, spell_file}
-use Rattle.cue_syntax.specs.Grammar.{IsRight, IsUnary, IsConjunct, AreRight, IsRightRest, AreUnary, IsRightBranch, AreRightBranches, IsRightEntry, AreRightEntries, IsNested, AreNested, EndsEntries, EndsElements, IsRightPackage, levels, levels_of_elements, levels_of_rest, levels_of_branch, levels_of_branches, levels_of_entry, levels_of_entries, Limit, Within, IsInRange, greatest}
+use Rattle.cue_syntax.specs.Spelling.{SpelledPiece, SpellsTree, one, comma_if, spell_mark, spell_signed, spell_label, spell_rest, spell, spell_elements, spell_more_elements, spell_branch, spell_more_branches, spell_entry, spell_entries, spell_more_entries, spell_file}
+use Rattle.cue_syntax.specs.Grammar.{IsRight, IsUnary, IsConjunct, AreRight, IsRightRest, AreUnary, IsRightBranch, AreRightBranches, IsRightEntry, AreRightEntries, IsNested, AreNested, EndsEntries, EndsElements, IsRightPackage, levels, levels_of_elements, levels_of_rest, levels_of_branch, levels_of_branches, levels_of_entry, levels_of_entries, Limit, Within, IsInRange, greatest_magnitude}
 use Rattle.cue_syntax.specs.Recogniser.{Goal, Stack, is_keyword}
 
 -- the levels at declarations: as many as below them at the top, one more in braces
@@ -45,14 +45,14 @@ pub record Keeps (limit : Limit) (n : ℕ) : Type 0 where
   pub within : Within limit n
 
 -- a part of the text that is spelled so
-pub record Spelt (A : Type 0) (spelled : A → List Piece) (a b : List Token) : Type 0 where
+pub record Spelt (A : Type 0) (spelled : A → List SpelledPiece) (a b : List Token) : Type 0 where
   pub part : A
-  pub reads : Reads a (spelled part) b
+  pub reads : SpellsTree a (spelled part) b
 
 -- a part of the grammar, which keeps within the limit where so many levels are open
-pub record Parsed (A : Type 0) (spelled : A → List Piece) (Good : A → Type 0) (opens : A → ℕ) (limit : Limit) (room : ℕ) (a b : List Token) : Type 0 where
+pub record Parsed (A : Type 0) (spelled : A → List SpelledPiece) (Good : A → Type 0) (opens : A → ℕ) (limit : Limit) (room : ℕ) (a b : List Token) : Type 0 where
   pub part : A
-  pub reads : Reads a (spelled part) b
+  pub reads : SpellsTree a (spelled part) b
   pub good : Good part
   pub within : Keeps limit (opens part + room)
 
@@ -93,7 +93,7 @@ FurtherTerms = Parsed Branches spell_more_branches (λ bs. AreRightBranches bs �
 pub record Valued (limit : Limit) (room : ℕ) (a b : List Token) : Type 0 where
   pub chain : List Label
   pub tree : Expression
-  pub reads : Reads a (flat_map spell_label chain ++ spell tree) b
+  pub reads : SpellsTree a (flat_map spell_label chain ++ spell tree) b
   pub right : IsRight tree
   pub within : Keeps limit (length chain + levels tree + room)
 
@@ -107,7 +107,7 @@ abbrev pub AnEntry : Bool → Limit → ℕ → List Token → List Token → Ty
 AnEntry top = Parsed Entry spell_entry (λ e. IsRightEntry e × IsAllowed top e) levels_of_entry
 
 -- declarations at the top end with the text, others with a brace
-abbrev pub closing : Bool → List Piece
+abbrev pub closing : Bool → List SpelledPiece
 closing true = []
 closing false = one (kinds.Mark points.CloseBrace)
 
@@ -120,7 +120,7 @@ NestedIn false es = AreNested es
 pub record Declared (top : Bool) (limit : Limit) (room : ℕ) (a b : List Token) : Type 0 where
   pub tree : Entries
   pub comma : Bool
-  pub reads : Reads a (spell_entries tree ++ (comma_if comma ++ closing top)) b
+  pub reads : SpellsTree a (spell_entries tree ++ (comma_if comma ++ closing top)) b
   pub right : AreRightEntries tree
   pub nested : NestedIn top tree
   pub ends : EndsEntries comma tree
@@ -130,7 +130,7 @@ pub record Declared (top : Bool) (limit : Limit) (room : ℕ) (a b : List Token)
 pub record MoreDeclared (top : Bool) (limit : Limit) (room : ℕ) (a b : List Token) : Type 0 where
   pub tree : Entries
   pub comma : Bool
-  pub reads : Reads a (spell_more_entries tree ++ (comma_if comma ++ closing top)) b
+  pub reads : SpellsTree a (spell_more_entries tree ++ (comma_if comma ++ closing top)) b
   pub right : AreRightEntries tree
   pub nested : NestedIn top tree
   pub within : Keeps limit (levels_of_entries tree + room)
@@ -140,14 +140,14 @@ pub record Listed (limit : Limit) (room : ℕ) (a b : List Token) : Type 0 where
   pub tree : Elements
   pub tail : Rest
   pub comma : Bool
-  pub reads : Reads a (spell_elements (kinds.Mark points.Comma) tree ++ (spell_rest tree tail ++ (comma_if comma ++ one (kinds.Mark points.CloseBracket)))) b
+  pub reads : SpellsTree a (spell_elements (kinds.Mark points.Comma) tree ++ (spell_rest tree tail ++ (comma_if comma ++ one (kinds.Mark points.CloseBracket)))) b
   pub right : AreRight tree
   pub rest_right : IsRightRest tail
   pub ends : EndsElements comma tail tree
   pub within : Keeps limit (max (levels_of_elements tree) (levels_of_rest tail) + room)
 
 -- `...` after an element, with the comma before it and what follows it
-abbrev pub rest_behind : Rest → List Piece
+abbrev pub rest_behind : Rest → List SpelledPiece
 rest_behind any_rest = one (kinds.Mark points.Comma) ++ one (kinds.Mark points.Ellipsis)
 rest_behind (each_rest e) = one (kinds.Mark points.Comma) ++ one (kinds.Mark points.Ellipsis) ++ spell e
 rest_behind no_rest = []
@@ -157,13 +157,13 @@ pub record MoreListed (limit : Limit) (room : ℕ) (a b : List Token) : Type 0 w
   pub tree : Elements
   pub tail : Rest
   pub comma : Bool
-  pub reads : Reads a (spell_more_elements (kinds.Mark points.Comma) tree ++ (rest_behind tail ++ (comma_if comma ++ one (kinds.Mark points.CloseBracket)))) b
+  pub reads : SpellsTree a (spell_more_elements (kinds.Mark points.Comma) tree ++ (rest_behind tail ++ (comma_if comma ++ one (kinds.Mark points.CloseBracket)))) b
   pub right : AreRight tree
   pub rest_right : IsRightRest tail
   pub within : Keeps limit (max (levels_of_elements tree) (levels_of_rest tail) + room)
 
 -- what the rest of a list has after its `...`
-abbrev pub spell_further : Rest → List Piece
+abbrev pub spell_further : Rest → List SpelledPiece
 spell_further (each_rest e) = spell e
 spell_further _ = []
 
@@ -176,7 +176,7 @@ HasDots _ = ⊤
 pub record Dotted (limit : Limit) (room : ℕ) (a b : List Token) : Type 0 where
   pub tail : Rest
   pub comma : Bool
-  pub reads : Reads a (spell_further tail ++ (comma_if comma ++ one (kinds.Mark points.CloseBracket))) b
+  pub reads : SpellsTree a (spell_further tail ++ (comma_if comma ++ one (kinds.Mark points.CloseBracket))) b
   pub dots : HasDots tail
   pub right : IsRightRest tail
   pub within : Keeps limit (levels_of_rest tail + room)
@@ -186,7 +186,7 @@ pub record Closed (limit : Limit) (room : ℕ) (a b : List Token) : Type 0 where
   pub tree : Entries
   pub inner : Bool
   pub comma : Bool
-  pub reads : Reads a (one (kinds.Mark points.OpenBrace) ++ (spell_entries tree ++ (comma_if inner ++ (one (kinds.Mark points.CloseBrace) ++ (comma_if comma ++ one (kinds.Mark points.CloseParenthesis)))))) b
+  pub reads : SpellsTree a (one (kinds.Mark points.OpenBrace) ++ (spell_entries tree ++ (comma_if inner ++ (one (kinds.Mark points.CloseBrace) ++ (comma_if comma ++ one (kinds.Mark points.CloseParenthesis)))))) b
   pub right : AreRightEntries tree
   pub nested : AreNested tree
   pub ends : EndsEntries inner tree
@@ -195,7 +195,7 @@ pub record Closed (limit : Limit) (room : ℕ) (a b : List Token) : Type 0 where
 -- a whole text
 pub record Whole (limit : Limit) (room : ℕ) (a b : List Token) : Type 0 where
   pub tree : FileTree
-  pub reads : Reads a (spell_file tree) b
+  pub reads : SpellsTree a (spell_file tree) b
   pub clause : IsRightPackage tree.package_clause tree.declarations
   pub right : AreRightEntries tree.declarations
   pub ends : EndsEntries tree.comma tree.declarations
@@ -206,7 +206,7 @@ pub record Packaged (limit : Limit) (room : ℕ) (a b : List Token) : Type 0 whe
   pub comma : Bool
   pub tree : Entries
   pub last : Bool
-  pub reads : Reads a (comma_if comma ++ (spell_entries tree ++ comma_if last)) b
+  pub reads : SpellsTree a (comma_if comma ++ (spell_entries tree ++ comma_if last)) b
   pub parted : comma ≡ false → tree ≡ no_entries
   pub right : AreRightEntries tree
   pub ends : EndsEntries last tree
@@ -223,13 +223,13 @@ Marked = Spelt Mark (λ mark. spell_mark mark ++ one (kinds.Mark points.Colon))
 -- the magnitude after a sign
 pub record Magnitude (sign : Sign) (a b : List Token) : Type 0 where
   pub part : ℕ
-  pub reads : Reads a (one (kinds.Integer part)) b
-  pub range : part ≤ greatest sign
+  pub reads : SpellsTree a (one (kinds.Integer part)) b
+  pub range : part ≤ greatest_magnitude sign
 
 -- an integer with its sign
 pub record IsSigned (a b : List Token) : Type 0 where
   pub part : Signed
-  pub reads : Reads a (spell_signed part) b
+  pub reads : SpellsTree a (spell_signed part) b
   pub range : IsInRange part
 
 -- The tokens up to the rest are what the goal has still to read, where so many levels are open below it. What follows a
@@ -241,7 +241,7 @@ Remains limit n Goal.package_end a b = Packaged limit n a b
 Remains limit n (Goal.entries top) a b = Declared top limit (inside top n) a b
 Remains limit n (Goal.more_entries top) a b = MoreDeclared top limit (inside top n) a b
 Remains limit n Goal.mark a b = Marked a b
-Remains limit n Goal.colon a b = Reads a (one (kinds.Mark points.Colon)) b
+Remains limit n Goal.colon a b = SpellsTree a (one (kinds.Mark points.Colon)) b
 Remains limit n Goal.value a b = Valued limit n a b
 Remains limit n (Goal.value_name t) a b = (first : Token) → first.kind ≡ kinds.Name t → Valued limit n (first ∷ a) b
 Remains limit n Goal.value_text a b = (first : Token) (t : List ℕ) → first.kind ≡ kinds.Text t → Valued limit n (first ∷ a) b
@@ -258,12 +258,12 @@ Remains limit n (Goal.magnitude sign) a b = Magnitude sign a b
 Remains limit n Goal.behind_close a b = (first : Token) → first.kind ≡ kinds.Name (codes "close") → AUnary limit n (first ∷ a) b
 Remains limit n Goal.closed a b = Closed limit (2 + n) a b
 Remains limit n Goal.parenthesis a b = Shuts (kinds.Mark points.CloseParenthesis) a b
-Remains limit n Goal.parenthesis_end a b = Reads a (one (kinds.Mark points.CloseParenthesis)) b
+Remains limit n Goal.parenthesis_end a b = SpellsTree a (one (kinds.Mark points.CloseParenthesis)) b
 Remains limit n Goal.elements a b = Listed limit (1 + n) a b
 Remains limit n Goal.more_elements a b = MoreListed limit (1 + n) a b
 Remains limit n Goal.dots a b = Dotted limit (1 + n) a b
 Remains limit n Goal.bracket a b = Shuts (kinds.Mark points.CloseBracket) a b
-Remains limit n Goal.bracket_end a b = Reads a (one (kinds.Mark points.CloseBracket)) b
+Remains limit n Goal.bracket_end a b = SpellsTree a (one (kinds.Mark points.CloseBracket)) b
 
 -- what comes after declarations: nothing at the top, the rest elsewhere
 abbrev pub Behind : Bool → (List Token → Type 0) → List Token → Type 0

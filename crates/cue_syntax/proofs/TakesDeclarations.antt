@@ -9,10 +9,10 @@ use Rattle.cue_syntax.specs.declared.tree.Label.{Label}
 use Rattle.cue_syntax.specs.declared.tree.LabelName.{LabelName}
 use Rattle.cue_syntax.specs.declared.tree.LabelName.TheVariants as names
 use Rattle.cue_syntax.specs.Syntax.{Expression, struct, close, list, Elements, no_elements, element, Entry, ellipsis, field, definition, Entries, no_entries, entry, Rest, no_rest, any_rest, each_rest}
-use Rattle.cue_syntax.specs.Spelling.{Reads, one, one_at, comma_if, label_kind, spell, spell_mark, spell_label, spell_elements, spell_more_elements, spell_dots, spell_rest, spell_entry, spell_entries, spell_more_entries}
+use Rattle.cue_syntax.specs.Spelling.{SpellsTree, one, one_at, comma_if, label_kind, spell, spell_mark, spell_label, spell_elements, spell_more_elements, spell_dots, spell_rest, spell_entry, spell_entries, spell_more_entries}
 use Rattle.cue_syntax.specs.Grammar.{Limit, Within, IsRight, IsNested, AreRight, IsRightRest, AreNested, IsRightEntry, AreRightEntries, EndsEntries, levels, levels_of_elements, levels_of_rest, levels_of_entry, levels_of_entries}
 use Rattle.cue_syntax.specs.Viability.{BeginsExpression}
-use Rattle.cue_syntax.specs.Recogniser.{Stack, step, stuck, depth, entries, more_entries, mark, colon, value, chained, expression, unary, behind_close, closed, elements, more_elements, dots, bracket}
+use Rattle.cue_syntax.specs.Recogniser.{Stack, step_stack, rest_where_stuck, depth, entries, more_entries, mark, colon, value, chained, expression, unary, behind_close, closed, elements, more_elements, dots, bracket}
 use Rattle.cue_syntax.specs.Recogniser as goals
 use Rattle.cue_syntax.proofs.ReadingsJoin.{reads_then}
 use Rattle.cue_syntax.proofs.WhatMayFollow.{AtEnd, HeadIs, NoMark, ClosesExpression, EndsExpression}
@@ -34,8 +34,8 @@ ends_clear (t ∷ a) end = no_mark t.kind end
 
 -- labels and then an expression use up the goal of a value
 pub takes_value : (chain : List Label) (e : Expression) → Takes e → IsRight e → (limit : Limit) (below : Stack) (a b : List Token)
-    → Reads a (flat_map spell_label chain ++ spell e) b → EndsExpression b → Within limit (depth below + (length chain + levels e))
-    → stuck limit (value ∷ below) a ≡ stuck limit below b
+    → SpellsTree a (flat_map spell_label chain ++ spell e) b → EndsExpression b → Within limit (depth below + (length chain + levels e))
+    → rest_where_stuck limit (value ∷ below) a ≡ rest_where_stuck limit below b
 takes_value [] e takes right limit below a b reads end within =
     value_is_expression limit below a (expression_opens e reads right (ends_clear b end)) (within_less limit _ (depth below + (0 + levels e)) (omega arith) within)
     ∙ takes.whole limit below a b reads end (within_less limit _ (depth below + (0 + levels e)) (omega arith) within)
@@ -70,20 +70,20 @@ FitTop true es = ⊤
 FitTop false es = AreNested es
 
 -- the goal of declarations takes the name of a label, and leaves its mark, its value and more declarations
-pub label_step : (top : Bool) (below : Stack) (n : LabelName) → step (entries top ∷ below) (label_kind n) ≡ Some (mark ∷ value ∷ more_entries top ∷ below)
+pub label_step : (top : Bool) (below : Stack) (n : LabelName) → step_stack (entries top ∷ below) (label_kind n) ≡ Some (mark ∷ value ∷ more_entries top ∷ below)
 label_step true below (names.Plain t) = refl
 label_step true below (names.Quoted t) = refl
 label_step false below (names.Plain t) = refl
 label_step false below (names.Quoted t) = refl
 
-ellipsis_step : (top : Bool) (below : Stack) → step (entries top ∷ below) (kinds.Mark points.Ellipsis) ≡ Some (more_entries top ∷ below)
+ellipsis_step : (top : Bool) (below : Stack) → step_stack (entries top ∷ below) (kinds.Mark points.Ellipsis) ≡ Some (more_entries top ∷ below)
 ellipsis_step true below = refl
 ellipsis_step false below = refl
 
 -- for goals that take the name of a label, and then its mark
-pub takes_field : (l : Label) (chain : List Label) (e : Expression) → Takes e → IsRight e → (limit : Limit) (above middle below : Stack) → step above (label_kind l.name) ≡ Some middle
-    → depth middle ≡ depth below → TakesMark middle (value ∷ below) → (a b : List Token) → Reads a (spell_entry (field l chain e)) b → EndsExpression b
-    → Within limit (depth below + (length chain + levels e)) → stuck limit above a ≡ stuck limit below b
+pub takes_field : (l : Label) (chain : List Label) (e : Expression) → Takes e → IsRight e → (limit : Limit) (above middle below : Stack) → step_stack above (label_kind l.name) ≡ Some middle
+    → depth middle ≡ depth below → TakesMark middle (value ∷ below) → (a b : List Token) → SpellsTree a (spell_entry (field l chain e)) b → EndsExpression b
+    → Within limit (depth below + (length chain + levels e)) → rest_where_stuck limit above a ≡ rest_where_stuck limit below b
 takes_field l chain e takes right limit above middle below takes_label deep steps a b reads end within =
     let s = reads_split (spell_label l ++ flat_map spell_label chain) (spell e) reads in
     let t = reads_split (spell_label l) (flat_map spell_label chain) s.first in
@@ -93,8 +93,8 @@ takes_field l chain e takes right limit above middle below takes_label deep step
     ∙ takes_value chain e takes right limit below t.between b (reads_then t.second s.second) end within
 
 takes_definition : (s : List ℕ) (from : ℕ) (chain : List Label) (e : Expression) → Takes e → IsRight e → (limit : Limit) (below : Stack) (a b : List Token)
-    → Reads a (spell_entry (definition s from chain e)) b → EndsExpression b → Within limit (depth (more_entries true ∷ below) + (length chain + levels e))
-    → stuck limit (entries true ∷ below) a ≡ stuck limit (more_entries true ∷ below) b
+    → SpellsTree a (spell_entry (definition s from chain e)) b → EndsExpression b → Within limit (depth (more_entries true ∷ below) + (length chain + levels e))
+    → rest_where_stuck limit (entries true ∷ below) a ≡ rest_where_stuck limit (more_entries true ∷ below) b
 takes_definition n from chain e takes right limit below a b reads end within =
     let s = reads_split (one_at from (kinds.Definition n)) (one (kinds.Mark points.Colon) ++ (flat_map spell_label chain ++ spell e)) reads in
     let t = reads_split (one (kinds.Mark points.Colon)) (flat_map spell_label chain ++ spell e) s.second in
@@ -105,8 +105,8 @@ takes_definition n from chain e takes right limit below a b reads end within =
     ∙ takes_value chain e takes right limit (more_entries true ∷ below) t.between b t.second end within
 
 -- a declaration leaves the goal of more declarations
-pub takes_entry : (top : Bool) (e : Entry) → TakesEntry e → IsRightEntry e → FitsTop top e → (limit : Limit) (below : Stack) (a b : List Token) → Reads a (spell_entry e) b → EndsExpression b
-    → Within limit (depth (more_entries top ∷ below) + levels_of_entry e) → stuck limit (entries top ∷ below) a ≡ stuck limit (more_entries top ∷ below) b
+pub takes_entry : (top : Bool) (e : Entry) → TakesEntry e → IsRightEntry e → FitsTop top e → (limit : Limit) (below : Stack) (a b : List Token) → SpellsTree a (spell_entry e) b → EndsExpression b
+    → Within limit (depth (more_entries top ∷ below) + levels_of_entry e) → rest_where_stuck limit (entries top ∷ below) a ≡ rest_where_stuck limit (more_entries top ∷ below) b
 takes_entry top ellipsis takes right fits limit below a b reads end within =
     took limit (entries top ∷ below) (more_entries top ∷ below) reads (ellipsis_step top below) (within_less limit _ (depth (more_entries top ∷ below) + 0) (omega arith) within)
 takes_entry top (field l chain e) takes right fits limit below a b reads end within =
@@ -130,7 +130,7 @@ fit_rest : (top : Bool) (e : Entry) (es : Entries) → FitTop top (entry e es) �
 fit_rest true e es fit = tt
 fit_rest false e es fit = fit.1
 
-comma_step : (top : Bool) (below : Stack) → step (more_entries top ∷ below) (kinds.Mark points.Comma) ≡ Some (entries top ∷ below)
+comma_step : (top : Bool) (below : Stack) → step_stack (more_entries top ∷ below) (kinds.Mark points.Comma) ≡ Some (entries top ∷ below)
 comma_step true below = refl
 comma_step false below = refl
 
@@ -141,9 +141,9 @@ same_depth false below = refl
 
 -- further declarations leave the goal of more declarations
 pub takes_more_entries : (top : Bool) (es : Entries) → TakeEntries es → AreRightEntries es → FitTop top es → (limit : Limit) (below : Stack) (a b : List Token)
-    → Reads a (spell_more_entries es) b → EndsExpression b → Within limit (depth (more_entries top ∷ below) + levels_of_entries es)
-    → stuck limit (more_entries top ∷ below) a ≡ stuck limit (more_entries top ∷ below) b
-takes_more_entries top no_entries takes right fit limit below a b reads end within = ap (stuck limit (more_entries top ∷ below)) reads.follows
+    → SpellsTree a (spell_more_entries es) b → EndsExpression b → Within limit (depth (more_entries top ∷ below) + levels_of_entries es)
+    → rest_where_stuck limit (more_entries top ∷ below) a ≡ rest_where_stuck limit (more_entries top ∷ below) b
+takes_more_entries top no_entries takes right fit limit below a b reads end within = ap (rest_where_stuck limit (more_entries top ∷ below)) reads.follows
 takes_more_entries top (entry e es) takes right fit limit below a b reads end within =
     let s = reads_split (one (kinds.Mark points.Comma)) (spell_entry e ++ spell_more_entries es) reads in
     let t = reads_split (spell_entry e) (spell_more_entries es) s.second in
@@ -156,8 +156,8 @@ takes_more_entries top (entry e es) takes right fit limit below a b reads end wi
 
 -- declarations, at least one, leave the goal of more declarations
 pub takes_entries : (top : Bool) (e : Entry) (es : Entries) → TakeEntries (entry e es) → AreRightEntries (entry e es) → FitTop top (entry e es) → (limit : Limit) (below : Stack) (a b : List Token)
-    → Reads a (spell_entries (entry e es)) b → EndsExpression b → Within limit (depth (more_entries top ∷ below) + levels_of_entries (entry e es))
-    → stuck limit (entries top ∷ below) a ≡ stuck limit (more_entries top ∷ below) b
+    → SpellsTree a (spell_entries (entry e es)) b → EndsExpression b → Within limit (depth (more_entries top ∷ below) + levels_of_entries (entry e es))
+    → rest_where_stuck limit (entries top ∷ below) a ≡ rest_where_stuck limit (more_entries top ∷ below) b
 takes_entries top e es takes right fit limit below a b reads end within =
     let t = reads_split (spell_entry e) (spell_more_entries es) reads in
     takes_entry top e takes.0 right.0 (fits_first top e es fit) limit below a t.between t.first (at_end_before ClosesExpression (spell_more_entries es) t.second (head_entries es) end)
@@ -166,19 +166,19 @@ takes_entries top e es takes right fit limit below a b reads end within =
     (within_less limit _ (depth (more_entries top ∷ below) + max (levels_of_entry e) (levels_of_entries es)) (omega arith) within)
 
 -- braces
-closes_brace : (limit : Limit) (below : Stack) {a b c : List Token} (comma : Bool) → Reads a (comma_if comma) b → Reads b (one (kinds.Mark points.CloseBrace)) c → Within limit (1 + depth below)
-    → stuck limit (more_entries false ∷ below) a ≡ stuck limit below c
+closes_brace : (limit : Limit) (below : Stack) {a b c : List Token} (comma : Bool) → SpellsTree a (comma_if comma) b → SpellsTree b (one (kinds.Mark points.CloseBrace)) c → Within limit (1 + depth below)
+    → rest_where_stuck limit (more_entries false ∷ below) a ≡ rest_where_stuck limit below c
 closes_brace limit below true first second within =
     took limit (more_entries false ∷ below) (entries false ∷ below) first refl within
     ∙ took limit (entries false ∷ below) below second refl (within_less limit _ (1 + depth below) (omega arith) within)
 closes_brace limit below false first second within =
-    ap (stuck limit (more_entries false ∷ below)) first.follows
+    ap (rest_where_stuck limit (more_entries false ∷ below)) first.follows
     ∙ took limit (more_entries false ∷ below) below second refl (within_less limit _ (1 + depth below) (omega arith) within)
 
 -- declarations and their closing brace use up the goal of declarations
 pub takes_braces : (es : Entries) (comma : Bool) → TakeEntries es → AreRightEntries es → AreNested es → EndsEntries comma es → (limit : Limit) (below : Stack) (a b : List Token)
-    → Reads a (spell_entries es ++ comma_if comma ++ one (kinds.Mark points.CloseBrace)) b → Within limit (depth below + (1 + levels_of_entries es))
-    → stuck limit (entries false ∷ below) a ≡ stuck limit below b
+    → SpellsTree a (spell_entries es ++ comma_if comma ++ one (kinds.Mark points.CloseBrace)) b → Within limit (depth below + (1 + levels_of_entries es))
+    → rest_where_stuck limit (entries false ∷ below) a ≡ rest_where_stuck limit below b
 takes_braces no_entries true takes right nested ends limit below a b reads within = absurd ends
 takes_braces no_entries false takes right nested ends limit below a b reads within =
     took limit (entries false ∷ below) below reads refl (within_less limit _ (depth below + (1 + 0)) (omega arith) within)
@@ -216,15 +216,15 @@ head_elements : (es : Elements) → HeadIs ClosesExpression (spell_more_elements
 head_elements no_elements = tt
 head_elements (element e es) = tt
 
-takes_element : (e : Expression) → Takes e → IsRight e → (limit : Limit) (below : Stack) (a b : List Token) → Reads a (spell e) b → EndsExpression b
-    → Within limit (1 + depth below + levels e) → stuck limit (elements ∷ below) a ≡ stuck limit (more_elements ∷ below) b
+takes_element : (e : Expression) → Takes e → IsRight e → (limit : Limit) (below : Stack) (a b : List Token) → SpellsTree a (spell e) b → EndsExpression b
+    → Within limit (1 + depth below + levels e) → rest_where_stuck limit (elements ∷ below) a ≡ rest_where_stuck limit (more_elements ∷ below) b
 takes_element e takes right limit below a b reads end within =
     element_is_expression limit below a (begins BeginsExpression (spell e) reads (opens_expression e right))
     ∙ takes.whole limit (more_elements ∷ below) a b reads end within
 
-takes_more_elements : (es : Elements) → TakeAll es → AreRight es → (limit : Limit) (below : Stack) (a b : List Token) → Reads a (spell_more_elements (kinds.Mark points.Comma) es) b → EndsExpression b
-    → Within limit (1 + depth below + levels_of_elements es) → stuck limit (more_elements ∷ below) a ≡ stuck limit (more_elements ∷ below) b
-takes_more_elements no_elements takes right limit below a b reads end within = ap (stuck limit (more_elements ∷ below)) reads.follows
+takes_more_elements : (es : Elements) → TakeAll es → AreRight es → (limit : Limit) (below : Stack) (a b : List Token) → SpellsTree a (spell_more_elements (kinds.Mark points.Comma) es) b → EndsExpression b
+    → Within limit (1 + depth below + levels_of_elements es) → rest_where_stuck limit (more_elements ∷ below) a ≡ rest_where_stuck limit (more_elements ∷ below) b
+takes_more_elements no_elements takes right limit below a b reads end within = ap (rest_where_stuck limit (more_elements ∷ below)) reads.follows
 takes_more_elements (element e es) takes right limit below a b reads end within =
     let s = reads_split (one (kinds.Mark points.Comma)) (spell e ++ spell_more_elements (kinds.Mark points.Comma) es) reads in
     let t = reads_split (spell e) (spell_more_elements (kinds.Mark points.Comma) es) s.second in
@@ -239,16 +239,16 @@ TakesRest (each_rest e) = Takes e
 TakesRest _ = ⊤
 
 -- after `...`: an expression, a comma, and the bracket
-ends_each : (limit : Limit) (below : Stack) (a b c d : List Token) (e : Expression) (comma : Bool) → Takes e → IsRight e → Reads a (spell e) b → Reads b (comma_if comma) c
-    → Reads c (one (kinds.Mark points.CloseBracket)) d → Within limit (1 + depth below + levels e) → stuck limit (dots ∷ below) a ≡ stuck limit below d
+ends_each : (limit : Limit) (below : Stack) (a b c d : List Token) (e : Expression) (comma : Bool) → Takes e → IsRight e → SpellsTree a (spell e) b → SpellsTree b (comma_if comma) c
+    → SpellsTree c (one (kinds.Mark points.CloseBracket)) d → Within limit (1 + depth below + levels e) → rest_where_stuck limit (dots ∷ below) a ≡ rest_where_stuck limit below d
 ends_each limit below a b c d e comma takes right first second third within =
     dots_are_expression limit below a (begins BeginsExpression (spell e) first (opens_expression e right))
     ∙ takes.whole limit (bracket ∷ below) a b first (ends_comma comma (kinds.Mark points.CloseBracket) second third tt) within
     ∙ closes_bracket limit below comma second third (within_less limit _ (1 + depth below + levels e) (omega arith) within)
 
 -- after the elements: `...`, with a comma before it
-more_dots : (limit : Limit) (below : Stack) (a b : List Token) (e : Expression) (es : Elements) → Reads a (spell_dots (element e es)) b → Within limit (1 + depth below)
-    → stuck limit (more_elements ∷ below) a ≡ stuck limit (dots ∷ below) b
+more_dots : (limit : Limit) (below : Stack) (a b : List Token) (e : Expression) (es : Elements) → SpellsTree a (spell_dots (element e es)) b → Within limit (1 + depth below)
+    → rest_where_stuck limit (more_elements ∷ below) a ≡ rest_where_stuck limit (dots ∷ below) b
 more_dots limit below a b e es first within =
     let s = reads_split (one (kinds.Mark points.Comma)) (one (kinds.Mark points.Ellipsis)) first in
     took limit (more_elements ∷ below) (elements ∷ below) s.first refl within
@@ -256,8 +256,8 @@ more_dots limit below a b e es first within =
 
 -- after the elements: their rest, a comma, and the bracket
 ends_elements : (limit : Limit) (below : Stack) (a b c d : List Token) (e : Expression) (es : Elements) (tail : Rest) (comma : Bool) → TakesRest tail → IsRightRest tail
-    → Reads a (spell_rest (element e es) tail) b → Reads b (comma_if comma) c → Reads c (one (kinds.Mark points.CloseBracket)) d → Within limit (1 + depth below + levels_of_rest tail)
-    → stuck limit (more_elements ∷ below) a ≡ stuck limit below d
+    → SpellsTree a (spell_rest (element e es) tail) b → SpellsTree b (comma_if comma) c → SpellsTree c (one (kinds.Mark points.CloseBracket)) d → Within limit (1 + depth below + levels_of_rest tail)
+    → rest_where_stuck limit (more_elements ∷ below) a ≡ rest_where_stuck limit below d
 ends_elements limit below a b c d e es any_rest comma takes right first second third within =
     let less : Within limit (1 + depth below) = within_less limit _ (1 + depth below + 0) (omega arith) within in
     more_dots limit below a b e es first less ∙ closes_dots limit below comma second third less
@@ -266,12 +266,12 @@ ends_elements limit below a b c d e es (each_rest f) comma takes right first sec
     more_dots limit below a s.between e es s.first (within_less limit _ (1 + depth below + levels f) (omega arith) within)
     ∙ ends_each limit below s.between b c d f comma takes right s.second second third within
 ends_elements limit below a b c d e es no_rest true takes right first second third within =
-    ap (stuck limit (more_elements ∷ below)) first.follows
+    ap (rest_where_stuck limit (more_elements ∷ below)) first.follows
     ∙ took limit (more_elements ∷ below) (elements ∷ below) second refl (within_less limit _ (1 + depth below + 0) (omega arith) within)
     ∙ took limit (elements ∷ below) below third refl (within_less limit _ (1 + depth below + 0) (omega arith) within)
 ends_elements limit below a b c d e es no_rest false takes right first second third within =
-    ap (stuck limit (more_elements ∷ below)) first.follows
-    ∙ ap (stuck limit (more_elements ∷ below)) second.follows
+    ap (rest_where_stuck limit (more_elements ∷ below)) first.follows
+    ∙ ap (rest_where_stuck limit (more_elements ∷ below)) second.follows
     ∙ took limit (more_elements ∷ below) below third refl (within_less limit _ (1 + depth below + 0) (omega arith) within)
 
 head_rest : (e : Expression) (es : Elements) (tail : Rest) → HeadIs ClosesExpression (spell_rest (element e es) tail)
@@ -280,22 +280,22 @@ head_rest e es (each_rest f) = tt
 head_rest e es no_rest = tt
 
 takes_items : (es : Elements) (tail : Rest) (comma : Bool) → TakeAll es → TakesRest tail → IsRight (list es tail comma) → (limit : Limit) (below : Stack) (a b c d f : List Token)
-    → Reads a (spell_elements (kinds.Mark points.Comma) es) b → Reads b (spell_rest es tail) c → Reads c (comma_if comma) d → Reads d (one (kinds.Mark points.CloseBracket)) f
-    → Within limit (depth below + (1 + max (levels_of_elements es) (levels_of_rest tail))) → stuck limit (elements ∷ below) a ≡ stuck limit below f
+    → SpellsTree a (spell_elements (kinds.Mark points.Comma) es) b → SpellsTree b (spell_rest es tail) c → SpellsTree c (comma_if comma) d → SpellsTree d (one (kinds.Mark points.CloseBracket)) f
+    → Within limit (depth below + (1 + max (levels_of_elements es) (levels_of_rest tail))) → rest_where_stuck limit (elements ∷ below) a ≡ rest_where_stuck limit below f
 takes_items no_elements any_rest comma takes rest right limit below a b c d f first second third fourth within =
-    ap (stuck limit (elements ∷ below)) first.follows
+    ap (rest_where_stuck limit (elements ∷ below)) first.follows
     ∙ took limit (elements ∷ below) (dots ∷ below) second refl (within_less limit _ (depth below + (1 + max 0 0)) (omega arith) within)
     ∙ closes_dots limit below comma third fourth (within_less limit _ (depth below + (1 + max 0 0)) (omega arith) within)
 takes_items no_elements (each_rest e) comma takes rest right limit below a b c d f first second third fourth within =
     let s = reads_split (one (kinds.Mark points.Ellipsis)) (spell e) second in
-    ap (stuck limit (elements ∷ below)) first.follows
+    ap (rest_where_stuck limit (elements ∷ below)) first.follows
     ∙ took limit (elements ∷ below) (dots ∷ below) s.first refl (within_less limit _ (depth below + (1 + max 0 (levels e))) (omega arith) within)
     ∙ ends_each limit below s.between c d f e comma rest right.1 s.second third fourth (within_less limit _ (depth below + (1 + max 0 (levels e))) (omega arith) within)
 takes_items no_elements no_rest true takes rest right limit below a b c d f first second third fourth within = absurd right.2
 takes_items no_elements no_rest false takes rest right limit below a b c d f first second third fourth within =
-    ap (stuck limit (elements ∷ below)) first.follows
-    ∙ ap (stuck limit (elements ∷ below)) second.follows
-    ∙ ap (stuck limit (elements ∷ below)) third.follows
+    ap (rest_where_stuck limit (elements ∷ below)) first.follows
+    ∙ ap (rest_where_stuck limit (elements ∷ below)) second.follows
+    ∙ ap (rest_where_stuck limit (elements ∷ below)) third.follows
     ∙ took limit (elements ∷ below) below fourth refl (within_less limit _ (depth below + (1 + max 0 0)) (omega arith) within)
 takes_items (element e es) tail comma takes rest right limit below a b c d f first second third fourth within =
     let all : ℕ = depth below + (1 + max (max (levels e) (levels_of_elements es)) (levels_of_rest tail)) in
@@ -308,8 +308,8 @@ takes_items (element e es) tail comma takes rest right limit below a b c d f fir
 
 -- elements and their rest, up to the bracket, use up the goal of elements
 pub takes_in_brackets : (es : Elements) (tail : Rest) (comma : Bool) → TakeAll es → TakesRest tail → IsRight (list es tail comma) → (limit : Limit) (below : Stack) (a b : List Token)
-    → Reads a (spell_elements (kinds.Mark points.Comma) es ++ spell_rest es tail ++ comma_if comma ++ one (kinds.Mark points.CloseBracket)) b
-    → Within limit (depth below + (1 + max (levels_of_elements es) (levels_of_rest tail))) → stuck limit (elements ∷ below) a ≡ stuck limit below b
+    → SpellsTree a (spell_elements (kinds.Mark points.Comma) es ++ spell_rest es tail ++ comma_if comma ++ one (kinds.Mark points.CloseBracket)) b
+    → Within limit (depth below + (1 + max (levels_of_elements es) (levels_of_rest tail))) → rest_where_stuck limit (elements ∷ below) a ≡ rest_where_stuck limit below b
 takes_in_brackets es tail comma takes rest right limit below a b reads within =
     let t = reads_split (spell_elements (kinds.Mark points.Comma) es ++ spell_rest es tail ++ comma_if comma) (one (kinds.Mark points.CloseBracket)) reads in
     let u = reads_split (spell_elements (kinds.Mark points.Comma) es ++ spell_rest es tail) (comma_if comma) t.first in

@@ -11,9 +11,9 @@ use Rattle.cue_syntax.specs.declared.tree.Comparison.{Comparison}
 use Rattle.cue_syntax.specs.declared.tree.Comparison.TheVariants as comparisons
 use Rattle.cue_syntax.specs.declared.tree.Signed.{Signed}
 use Rattle.cue_syntax.specs.Syntax.{Expression, name, integer, text, bottom, bound, other_integer, other_text, parenthesis, conjunction, disjunction, Elements, no_elements, element, Branch, branch, Branches, no_branches, next_branch}
-use Rattle.cue_syntax.specs.Spelling.{Reads, one, placed, comma_if, comparison_kind, spell, spell_signed, spell_more_elements, spell_branch, spell_more_branches}
+use Rattle.cue_syntax.specs.Spelling.{SpellsTree, one, place_first, comma_if, comparison_kind, spell, spell_signed, spell_more_elements, spell_branch, spell_more_branches}
 use Rattle.cue_syntax.specs.Grammar.{Limit, Within, IsRight, IsUnary, IsConjunct, AreUnary, TwoElements, TwoBranches, IsRightBranch, AreRightBranches, levels, levels_of_elements, levels_of_branch, levels_of_branches, IsInRange}
-use Rattle.cue_syntax.specs.Recogniser.{Stack, step, stuck, depth, expression, term, unary, more_parts, bar, more_terms, signed, signed_or_text}
+use Rattle.cue_syntax.specs.Recogniser.{Stack, step_stack, rest_where_stuck, depth, expression, term, unary, more_parts, bar, more_terms, signed, signed_or_text}
 use Rattle.cue_syntax.specs.Recogniser as goals
 use Rattle.cue_syntax.proofs.WhatMayFollow.{HeadIs, BeginsOperand, ClosesExpression, ClosesTerm, ClosesOperand, EndsExpression, EndsTerm, EndsOperand}
 use Rattle.cue_syntax.proofs.TakesOneToken.{reads_split, reads_unplaced, at_end_before, begins, ends_term, ends_operand, within_less, took, over_parts, over_terms}
@@ -23,18 +23,18 @@ use Rattle.cue_syntax.proofs.TakesSmallPieces.{expression_is_operand, term_is_op
 -- what an expression uses up
 -- what it uses up as an operand or a bound
 abbrev pub TakesUnary : Expression → Type 0
-TakesUnary e = (limit : Limit) (below : Stack) (a b : List Token) → Reads a (spell e) b → EndsOperand b → Within limit (depth below + levels e)
-    → stuck limit (unary ∷ below) a ≡ stuck limit below b
+TakesUnary e = (limit : Limit) (below : Stack) (a b : List Token) → SpellsTree a (spell e) b → EndsOperand b → Within limit (depth below + levels e)
+    → rest_where_stuck limit (unary ∷ below) a ≡ rest_where_stuck limit below b
 
 -- what it uses up as a part of a disjunction
 abbrev pub TakesConjunct : Expression → Type 0
-TakesConjunct e = (limit : Limit) (below : Stack) (a b : List Token) → Reads a (spell e) b → EndsTerm b → Within limit (depth below + levels e)
-    → stuck limit (unary ∷ more_parts ∷ below) a ≡ stuck limit below b
+TakesConjunct e = (limit : Limit) (below : Stack) (a b : List Token) → SpellsTree a (spell e) b → EndsTerm b → Within limit (depth below + levels e)
+    → rest_where_stuck limit (unary ∷ more_parts ∷ below) a ≡ rest_where_stuck limit below b
 
 -- what it uses up by itself
 abbrev pub TakesExpression : Expression → Type 0
-TakesExpression e = (limit : Limit) (below : Stack) (a b : List Token) → Reads a (spell e) b → EndsExpression b → Within limit (depth below + levels e)
-    → stuck limit (expression ∷ below) a ≡ stuck limit below b
+TakesExpression e = (limit : Limit) (below : Stack) (a b : List Token) → SpellsTree a (spell e) b → EndsExpression b → Within limit (depth below + levels e)
+    → rest_where_stuck limit (expression ∷ below) a ≡ rest_where_stuck limit below b
 
 -- an expression uses up the goal of each place where it may stand
 pub record Takes (e : Expression) : Type 0 where
@@ -70,7 +70,7 @@ named (identifiers.Definition t) from right limit below a b reads end within =
 named (identifiers.Hidden t) from right limit below a b reads end within =
     took limit (unary ∷ below) below (reads_unplaced from (one (kinds.Hidden t)) reads) refl (within_less limit _ (depth below + 0) (omega arith) within)
 
-comparison_step : (c : Comparison) (below : Stack) → step (unary ∷ below) (comparison_kind c) ≡ Some (signed ∷ below)
+comparison_step : (c : Comparison) (below : Stack) → step_stack (unary ∷ below) (comparison_kind c) ≡ Some (signed ∷ below)
 comparison_step comparisons.Less below = refl
 comparison_step comparisons.AtMost below = refl
 comparison_step comparisons.Greater below = refl
@@ -116,7 +116,7 @@ head_comma true = tt
 head_comma false = tt
 
 -- a comma or none, before a token that may follow an expression, may follow one too
-pub ends_comma : {a b c : List Token} (comma : Bool) (k : TokenKind) → Reads a (comma_if comma) b → Reads b (one k) c → ClosesExpression k → EndsExpression a
+pub ends_comma : {a b c : List Token} (comma : Bool) (k : TokenKind) → SpellsTree a (comma_if comma) b → SpellsTree b (one k) c → ClosesExpression k → EndsExpression a
 ends_comma comma k first second closes = at_end_before ClosesExpression (comma_if comma) first (head_comma comma) (begins ClosesExpression (one k) second closes)
 
 -- an expression in parentheses uses up the goal of an operand
@@ -140,9 +140,9 @@ head_parts : (es : Elements) → HeadIs ClosesOperand (spell_more_elements (kind
 head_parts no_elements = tt
 head_parts (element e es) = tt
 
-parts : (es : Elements) → TakeAll es → AreUnary es → (limit : Limit) (below : Stack) (a b : List Token) → Reads a (spell_more_elements (kinds.Mark points.Ampersand) es) b → EndsTerm b
-    → Within limit (depth below + levels_of_elements es) → stuck limit (more_parts ∷ below) a ≡ stuck limit below b
-parts no_elements takes are limit below a b reads end within = ap (stuck limit (more_parts ∷ below)) reads.follows ∙ over_parts limit below b end
+parts : (es : Elements) → TakeAll es → AreUnary es → (limit : Limit) (below : Stack) (a b : List Token) → SpellsTree a (spell_more_elements (kinds.Mark points.Ampersand) es) b → EndsTerm b
+    → Within limit (depth below + levels_of_elements es) → rest_where_stuck limit (more_parts ∷ below) a ≡ rest_where_stuck limit below b
+parts no_elements takes are limit below a b reads end within = ap (rest_where_stuck limit (more_parts ∷ below)) reads.follows ∙ over_parts limit below b end
 parts (element e es) takes are limit below a b reads end within =
     let s = reads_split (one (kinds.Mark points.Ampersand)) (spell e ++ spell_more_elements (kinds.Mark points.Ampersand) es) reads in
     let t = reads_split (spell e) (spell_more_elements (kinds.Mark points.Ampersand) es) s.second in
@@ -178,10 +178,10 @@ TakeBranches no_branches = ⊤
 TakeBranches (next_branch b bs) = TakesBranch b × TakeBranches bs
 
 -- a term whose expression uses up its goal uses up that of a term
-pub takes_term : (c : Branch) → TakesBranch c → IsRightBranch c → (limit : Limit) (below : Stack) (a b : List Token) → Reads a (spell_branch c) b → EndsTerm b
-    → Within limit (depth below + levels_of_branch c) → stuck limit (term ∷ below) a ≡ stuck limit below b
+pub takes_term : (c : Branch) → TakesBranch c → IsRightBranch c → (limit : Limit) (below : Stack) (a b : List Token) → SpellsTree a (spell_branch c) b → EndsTerm b
+    → Within limit (depth below + levels_of_branch c) → rest_where_stuck limit (term ∷ below) a ≡ rest_where_stuck limit below b
 takes_term (branch true from e) takes right limit below a b reads end within =
-    let s = reads_split (one (kinds.Mark points.Star)) (placed from (spell e)) reads in
+    let s = reads_split (one (kinds.Mark points.Star)) (place_first from (spell e)) reads in
     took limit (term ∷ below) (unary ∷ below) s.first refl (within_less limit _ (depth below + levels e) (omega arith) within)
     ∙ takes.operand right.1 limit below s.between b (reads_unplaced from (spell e) s.second) (ends_operand b end) within
 takes_term (branch false from e) takes right limit below a b reads end within =
@@ -194,12 +194,12 @@ head_terms no_branches = tt
 head_terms (next_branch b bs) = tt
 
 abbrev TakesTerms : Branches → Type 0
-TakesTerms bs = (limit : Limit) (below : Stack) (a b : List Token) → Reads a (spell_more_branches bs) b → EndsExpression b
-    → Within limit (depth below + levels_of_branches bs) → stuck limit (more_terms ∷ below) a ≡ stuck limit below b
+TakesTerms bs = (limit : Limit) (below : Stack) (a b : List Token) → SpellsTree a (spell_more_branches bs) b → EndsExpression b
+    → Within limit (depth below + levels_of_branches bs) → rest_where_stuck limit (more_terms ∷ below) a ≡ rest_where_stuck limit below b
 
-some_terms : (c : Branch) (bs : Branches) → TakesBranch c → IsRightBranch c → TakesTerms bs → (limit : Limit) (above below : Stack) → step above (kinds.Mark points.Bar) ≡ Some (term ∷ more_terms ∷ below)
-    → (a b : List Token) → Reads a (spell_more_branches (next_branch c bs)) b → EndsExpression b → Within limit (depth below + levels_of_branches (next_branch c bs))
-    → stuck limit above a ≡ stuck limit below b
+some_terms : (c : Branch) (bs : Branches) → TakesBranch c → IsRightBranch c → TakesTerms bs → (limit : Limit) (above below : Stack) → step_stack above (kinds.Mark points.Bar) ≡ Some (term ∷ more_terms ∷ below)
+    → (a b : List Token) → SpellsTree a (spell_more_branches (next_branch c bs)) b → EndsExpression b → Within limit (depth below + levels_of_branches (next_branch c bs))
+    → rest_where_stuck limit above a ≡ rest_where_stuck limit below b
 some_terms c bs takes right rest limit above below takes_bar a b reads end within =
     let s = reads_split (one (kinds.Mark points.Bar)) (spell_branch c ++ spell_more_branches bs) reads in
     let t = reads_split (spell_branch c) (spell_more_branches bs) s.second in
@@ -209,7 +209,7 @@ some_terms c bs takes right rest limit above below takes_bar a b reads end withi
     ∙ rest limit below t.between b t.second end (within_less limit _ (depth below + max (levels_of_branch c) (levels_of_branches bs)) (omega arith) within)
 
 terms : (bs : Branches) → TakeBranches bs → AreRightBranches bs → TakesTerms bs
-terms no_branches takes right limit below a b reads end within = ap (stuck limit (more_terms ∷ below)) reads.follows ∙ over_terms limit below b end
+terms no_branches takes right limit below a b reads end within = ap (rest_where_stuck limit (more_terms ∷ below)) reads.follows ∙ over_terms limit below b end
 terms (next_branch c bs) takes right limit below a b reads end within =
     some_terms c bs takes.0 right.0 (terms bs takes.1 right.1) limit (more_terms ∷ below) below refl a b reads end within
 
@@ -217,15 +217,15 @@ disjoined : (bs : Branches) → TakeBranches bs → AreRightBranches bs → TwoB
 disjoined no_branches takes right two limit below a b reads end within = absurd two
 disjoined (next_branch c no_branches) takes right two limit below a b reads end within = absurd two
 disjoined (next_branch (branch true from e) (next_branch c bs)) takes right two limit below a b reads end within =
-    let s = reads_split (one (kinds.Mark points.Star)) (placed from (spell e) ++ spell_more_branches (next_branch c bs)) reads in
-    let t = reads_split (placed from (spell e)) (spell_more_branches (next_branch c bs)) s.second in
+    let s = reads_split (one (kinds.Mark points.Star)) (place_first from (spell e) ++ spell_more_branches (next_branch c bs)) reads in
+    let t = reads_split (place_first from (spell e)) (spell_more_branches (next_branch c bs)) s.second in
     took limit (expression ∷ below) (unary ∷ bar ∷ below) s.first refl (within_less limit _ (depth below + levels_of_branches (next_branch (branch true from e) (next_branch c bs))) (omega arith) within)
     ∙ takes.0.operand right.0.1 limit (bar ∷ below) s.between t.between (reads_unplaced from (spell e) t.first) (begins ClosesOperand (spell_more_branches (next_branch c bs)) t.second tt)
     (within_less limit _ (depth below + levels_of_branches (next_branch (branch true from e) (next_branch c bs))) (omega arith) within)
     ∙ some_terms c bs takes.1.0 right.1.0 (terms bs takes.1.1 right.1.1) limit (bar ∷ below) below refl t.between b t.second end
     (within_less limit _ (depth below + levels_of_branches (next_branch (branch true from e) (next_branch c bs))) (omega arith) within)
 disjoined (next_branch (branch false from e) (next_branch c bs)) takes right two limit below a b reads end within =
-    let t = reads_split (placed from (spell e)) (spell_more_branches (next_branch c bs)) reads in
+    let t = reads_split (place_first from (spell e)) (spell_more_branches (next_branch c bs)) reads in
     let plain = reads_unplaced from (spell e) t.first in
     expression_is_operand limit below a (begins BeginsOperand (spell e) plain (opens_conjunct e right.0.0 right.0.1))
     ∙ takes.0.conjunct right.0.1 limit (more_terms ∷ below) a t.between plain (begins ClosesTerm (spell_more_branches (next_branch c bs)) t.second tt)

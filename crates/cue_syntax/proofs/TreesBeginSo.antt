@@ -13,7 +13,7 @@ use Rattle.cue_syntax.specs.declared.tree.Comparison.TheVariants as comparisons
 use Rattle.cue_syntax.specs.declared.tree.Sign.{Sign}
 use Rattle.cue_syntax.specs.declared.tree.Sign.TheVariants as signs
 use Rattle.cue_syntax.specs.Syntax.{Expression, name, integer, text, bottom, bound, other_integer, other_text, parenthesis, struct, close, list, conjunction, disjunction, Elements, no_elements, element, branch, Branches, no_branches, next_branch}
-use Rattle.cue_syntax.specs.Spelling.{Piece, Reads, Follows, one, placed, identifier_kind, comparison_kind, spell, spell_sign, spell_signed, spell_more_elements, spell_branch, spell_more_branches}
+use Rattle.cue_syntax.specs.Spelling.{SpelledPiece, SpellsTree, Follows, one, place_first, identifier_kind, comparison_kind, spell, spell_sign, spell_signed, spell_more_elements, spell_branch, spell_more_branches}
 use Rattle.cue_syntax.specs.Grammar.{IsKeyword, IsRight, IsUnary, IsConjunct}
 use Rattle.cue_syntax.specs.Viability.{BeginsExpression}
 use Rattle.cue_syntax.specs.Recogniser.{is_word, is_keyword}
@@ -97,7 +97,7 @@ opens_conjunct (struct es comma) right conjunct = tt
 opens_conjunct (close from es inner comma) right conjunct = tt
 opens_conjunct (list es tail comma) right conjunct = tt
 
-opens_wide : (p : List Piece) → Opens BeginsOperand p → Opens BeginsExpression p
+opens_wide : (p : List SpelledPiece) → Opens BeginsOperand p → Opens BeginsExpression p
 opens_wide [] opens = opens
 opens_wide (x ∷ p) opens = operand_wide x.kind opens
 
@@ -135,7 +135,7 @@ abbrev pub OpensValue : List Token → Type 0
 OpensValue [] = ⊤
 OpensValue (token ∷ tokens) = OpensBy token.kind (AtEnd NoMark tokens)
 
-abbrev OpensPlain : List Piece → Type 0
+abbrev OpensPlain : List SpelledPiece → Type 0
 OpensPlain [] = ⊥
 OpensPlain (x ∷ p) = OpensBy x.kind (HeadIs NoMark p)
 
@@ -144,21 +144,21 @@ opens_by (kinds.Name t) f opens = (opens.0, f opens.1)
 opens_by (kinds.Text t) f opens = f opens
 opens_by _ f opens = tt
 
-opens_value : (a b : List Token) (p : List Piece) → Follows a p b → OpensPlain p → AtEnd NoMark b → OpensValue a
+opens_value : (a b : List Token) (p : List SpelledPiece) → Follows a p b → OpensPlain p → AtEnd NoMark b → OpensValue a
 opens_value a b [] follows opens end = absurd opens
 opens_value [] b (x ∷ p) follows opens end = absurd follows
 opens_value (t ∷ a) b (x ∷ p) follows opens end = subst (λ k. OpensBy k (AtEnd NoMark a)) (sym follows.0)
     (opens_by x.kind {M = HeadIs NoMark p} {N = AtEnd NoMark a} (λ head. at_end_before NoMark p (record { follows = follows.2 }) head end) opens)
 
-head_append : (P : TokenKind → Type 0) (p q : List Piece) → HeadIs P p → HeadIs P q → HeadIs P (p ++ q)
+head_append : (P : TokenKind → Type 0) (p q : List SpelledPiece) → HeadIs P p → HeadIs P q → HeadIs P (p ++ q)
 head_append P [] q first second = second
 head_append P (x ∷ p) q first second = first
 
-plain_append : (p q : List Piece) → OpensPlain p → HeadIs NoMark q → OpensPlain (p ++ q)
+plain_append : (p q : List SpelledPiece) → OpensPlain p → HeadIs NoMark q → OpensPlain (p ++ q)
 plain_append [] q opens head = absurd opens
 plain_append (x ∷ p) q opens head = opens_by x.kind {M = HeadIs NoMark p} {N = HeadIs NoMark (p ++ q)} (λ first. head_append NoMark p q first head) opens
 
-plain_placed : (from : ℕ) (p : List Piece) → OpensPlain p → OpensPlain (placed from p)
+plain_placed : (from : ℕ) (p : List SpelledPiece) → OpensPlain p → OpensPlain (place_first from p)
 plain_placed from [] opens = opens
 plain_placed from (x ∷ p) opens = opens
 
@@ -167,7 +167,7 @@ plain_signed signs.Absent m = tt
 plain_signed signs.Minus m = tt
 plain_signed signs.Plus m = tt
 
-plain_bound : (c : Comparison) (p : List Piece) → OpensPlain (one (comparison_kind c) ++ p)
+plain_bound : (c : Comparison) (p : List SpelledPiece) → OpensPlain (one (comparison_kind c) ++ p)
 plain_bound comparisons.Less p = tt
 plain_bound comparisons.AtMost p = tt
 plain_bound comparisons.Greater p = tt
@@ -218,7 +218,7 @@ plain_expression : (e : Expression) → IsRight e → OpensPlain (spell e)
 plain_expression (disjunction no_branches) right = absurd right.1
 plain_expression (disjunction (next_branch (branch true from e) bs)) right = tt
 plain_expression (disjunction (next_branch (branch false from e) bs)) right =
-    plain_append (placed from (spell e)) _ (plain_placed from (spell e) (plain_conjunct e right.0.0.0 right.0.0.1)) (head_terms bs)
+    plain_append (place_first from (spell e)) _ (plain_placed from (spell e) (plain_conjunct e right.0.0.0 right.0.0.1)) (head_terms bs)
 plain_expression (conjunction es) right = plain_conjunct (conjunction es) right tt
 plain_expression (name n from) right = plain_unary (name n from) right tt
 plain_expression (integer n) right = plain_unary (integer n) right tt
@@ -233,5 +233,5 @@ plain_expression (close from es inner comma) right = (refl, tt)
 plain_expression (list es tail comma) right = tt
 
 -- an expression with no mark of a label after it begins as a value without labels may
-pub expression_opens : {a b : List Token} (e : Expression) → Reads a (spell e) b → IsRight e → AtEnd NoMark b → OpensValue a
+pub expression_opens : {a b : List Token} (e : Expression) → SpellsTree a (spell e) b → IsRight e → AtEnd NoMark b → OpensValue a
 expression_opens e reads right end = opens_value _ _ (spell e) reads.follows (plain_expression e right) end

@@ -13,7 +13,7 @@ use Rattle.cue_syntax.specs.declared.tree.Declaration.{Declaration}
 use Rattle.cue_syntax.specs.declared.tree.Declaration.TheVariants as declarations
 use Rattle.cue_syntax.specs.declared.tree.Declaration.TheOpen.{Expr-F, Rest-F, Declaration-F}
 use Rattle.cue_syntax.specs.declared.tree.Declaration.TheFolds.{fold-roll-Expr, fold-roll-Rest, fold-roll-Declaration, fold_out-Term}
-use Rattle.cue_syntax.specs.Syntax.{Entry, Expression, Branch, entry_step, expression_step, rest_step, branch_step, expression, entry_tree, rest_tree, branch_tree, elements, branches, entries, name, integer, text, bottom, bound, other_integer, other_text, parenthesis, struct, close, list, conjunction, disjunction, branch, ellipsis, field, definition, Rest, no_rest, any_rest, each_rest}
+use Rattle.cue_syntax.specs.Syntax.{Entry, Expression, Branch, entry_step, expression_step, rest_step, branch_step, expression, entry_tree, rest_of_tree, branch_tree, elements_of_list, branches_of_list, entries, name, integer, text, bottom, bound, other_integer, other_text, parenthesis, struct, close, list, conjunction, disjunction, branch, ellipsis, field, definition, Rest, no_rest, any_rest, each_rest}
 
 -- the tree of an identifier is that of its name and its place
 pub view-Name : (n : Identifier) (from : ℕ) → expression (exprs.Name n from) ≡ name n from
@@ -56,27 +56,27 @@ pub view-Close : (from : ℕ) (ds : Vec Declaration Global) (inner : Bool) (comm
 view-Close from ds inner comma = ap expression (sym (exprs.rolls-Close from ds inner comma)) ∙ fold-roll-Expr Entry Expression Rest Branch entry_step expression_step rest_step branch_step (Expr-F.Close from ds inner comma)
 
 -- the tree of a list is that of its elements' trees, its `...` and its comma
-pub view-List : (es : Vec Expr Global) (tail : code.Rest) (comma : Bool) → expression (exprs.List es tail comma) ≡ list (elements es.items) (rest_tree tail) comma
+pub view-List : (es : Vec Expr Global) (tail : code.Rest) (comma : Bool) → expression (exprs.List es tail comma) ≡ list (elements_of_list es.items) (rest_of_tree tail) comma
 view-List es tail comma = ap expression (sym (exprs.rolls-List es tail comma)) ∙ fold-roll-Expr Entry Expression Rest Branch entry_step expression_step rest_step branch_step (Expr-F.List es tail comma)
 
 -- no rest is no rest
-pub view-Ends : rest_tree rests.Ends ≡ no_rest
-view-Ends = ap rest_tree (sym rests.rolls-Ends) ∙ fold-roll-Rest Entry Expression Rest Branch entry_step expression_step rest_step branch_step Rest-F.Ends
+pub view-Ends : rest_of_tree rests.Ends ≡ no_rest
+view-Ends = ap rest_of_tree (sym rests.rolls-Ends) ∙ fold-roll-Rest Entry Expression Rest Branch entry_step expression_step rest_step branch_step Rest-F.Ends
 
 -- the tree of the `...` of a list is that of `...`
-pub view-GoesOn : rest_tree rests.GoesOn ≡ any_rest
-view-GoesOn = ap rest_tree (sym rests.rolls-GoesOn) ∙ fold-roll-Rest Entry Expression Rest Branch entry_step expression_step rest_step branch_step Rest-F.GoesOn
+pub view-GoesOn : rest_of_tree rests.GoesOn ≡ any_rest
+view-GoesOn = ap rest_of_tree (sym rests.rolls-GoesOn) ∙ fold-roll-Rest Entry Expression Rest Branch entry_step expression_step rest_step branch_step Rest-F.GoesOn
 
 -- the tree of `...` and an expression is that of the expression's tree
-pub view-Each : (e : Box Expr Global) → rest_tree (rests.Each e) ≡ each_rest (expression e.value)
-view-Each e = ap rest_tree (sym (rests.rolls-Each e)) ∙ fold-roll-Rest Entry Expression Rest Branch entry_step expression_step rest_step branch_step (Rest-F.Each e)
+pub view-Each : (e : Box Expr Global) → rest_of_tree (rests.Each e) ≡ each_rest (expression e.value)
+view-Each e = ap rest_of_tree (sym (rests.rolls-Each e)) ∙ fold-roll-Rest Entry Expression Rest Branch entry_step expression_step rest_step branch_step (Rest-F.Each e)
 
 -- the tree of a conjunction is that of its parts' trees
-pub view-Conjunction : (es : Vec Expr Global) → expression (exprs.Conjunction es) ≡ conjunction (elements es.items)
+pub view-Conjunction : (es : Vec Expr Global) → expression (exprs.Conjunction es) ≡ conjunction (elements_of_list es.items)
 view-Conjunction es = ap expression (sym (exprs.rolls-Conjunction es)) ∙ fold-roll-Expr Entry Expression Rest Branch entry_step expression_step rest_step branch_step (Expr-F.Conjunction es)
 
 -- the tree of a disjunction is that of its terms' trees
-pub view-Disjunction : (ts : Vec Term Global) → expression (exprs.Disjunction ts) ≡ disjunction (branches ts.items)
+pub view-Disjunction : (ts : Vec Term Global) → expression (exprs.Disjunction ts) ≡ disjunction (branches_of_list ts.items)
 view-Disjunction ts = ap expression (sym (exprs.rolls-Disjunction ts)) ∙ fold-roll-Expr Entry Expression Rest Branch entry_step expression_step rest_step branch_step (Expr-F.Disjunction ts)
 
 -- the tree of `...` is that of `...`

@@ -4,7 +4,7 @@ use Rattle.cue_lex.specs.declared.token.Token.{Token}
 use Rattle.cue_lex.specs.declared.token.TokenKind.{TokenKind}
 use Rattle.cue_lex.specs.declared.token.TokenKind.TheVariants as kinds
 use Rattle.cue_lex.specs.declared.punctuation.Punctuation.TheVariants as points
-use Rattle.cue_syntax.specs.Spelling.{Piece}
+use Rattle.cue_syntax.specs.Spelling.{SpelledPiece}
 
 -- the text ends here, or goes on with such a token
 abbrev pub AtEnd : (TokenKind → Type 0) → List Token → Type 0
@@ -69,11 +69,11 @@ NoMark (kinds.Mark points.Exclamation) = ⊥
 NoMark _ = ⊤
 
 -- the pieces begin so, where there are any
-abbrev pub HeadIs : (TokenKind → Type 0) → List Piece → Type 0
+abbrev pub HeadIs : (TokenKind → Type 0) → List SpelledPiece → Type 0
 HeadIs P [] = ⊤
 HeadIs P (piece ∷ pieces) = P piece.kind
 
 -- there are pieces, and they begin so
-abbrev pub Opens : (TokenKind → Type 0) → List Piece → Type 0
+abbrev pub Opens : (TokenKind → Type 0) → List SpelledPiece → Type 0
 Opens P [] = ⊥
 Opens P (piece ∷ pieces) = P piece.kind

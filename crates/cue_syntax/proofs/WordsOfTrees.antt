@@ -8,35 +8,35 @@ use Rattle.cue_lex.specs.declared.punctuation.Punctuation.TheVariants as points
 use Rattle.cue_lex.specs.Kinds.{HasWord}
 use Rattle.cue_lex.specs.Inner.Kinds.{EachHasWord}
 use Rattle.cue_syntax.specs.declared.tree.Label.{Label}
-use Rattle.cue_syntax.specs.Spelling.{Piece, Follows, one, placed, comma_if, star_if, spell, spell_label, spell_dots, spell_rest, spell_elements, spell_more_elements, spell_branch, spell_branches, spell_more_branches, spell_entry, spell_entries, spell_more_entries}
+use Rattle.cue_syntax.specs.Spelling.{SpelledPiece, Follows, one, place_first, comma_if, star_if, spell, spell_label, spell_dots, spell_rest, spell_elements, spell_more_elements, spell_branch, spell_branches, spell_more_branches, spell_entry, spell_entries, spell_more_entries}
 use Rattle.cue_syntax.specs.Syntax.{Expression, name, integer, text, bottom, bound, other_integer, other_text, parenthesis, struct, close, list, conjunction, disjunction, Elements, no_elements, element, Rest, no_rest, any_rest, each_rest, Branch, branch, Branches, no_branches, next_branch, Entry, ellipsis, field, definition, Entries, no_entries, entry}
 use Rattle.cue_syntax.specs.Words.{HasWordLabel, HasWords, HaveWords, HasWordsRest, HasWordsBranch, HaveWordsBranches, HasWordsEntry, HaveWordsEntries}
 use Rattle.cue_syntax.specs.Grammar.{AreEntries}
 
 -- what a piece names or quotes, if it does, is a word
-abbrev EachPieceHasWord : List Piece → Type 0
+abbrev EachPieceHasWord : List SpelledPiece → Type 0
 EachPieceHasWord = AllByRecursion (λ piece. HasWord piece.kind)
 
-spelled_words : (tokens : List Token) (pieces : List Piece) (rest : List Token) → Follows tokens pieces rest → EachHasWord tokens → EachPieceHasWord pieces
+spelled_words : (tokens : List Token) (pieces : List SpelledPiece) (rest : List Token) → Follows tokens pieces rest → EachHasWord tokens → EachPieceHasWord pieces
 spelled_words tokens [] rest follows words = tt
 spelled_words [] (piece ∷ pieces) rest follows words = absurd follows
 spelled_words (token ∷ tokens) (piece ∷ pieces) rest follows words =
     (subst HasWord follows.0 words.0, spelled_words tokens pieces rest follows.2 words.1)
 
-front : (xs ys : List Piece) → EachPieceHasWord (xs ++ ys) → EachPieceHasWord xs
+front : (xs ys : List SpelledPiece) → EachPieceHasWord (xs ++ ys) → EachPieceHasWord xs
 front [] ys words = tt
 front (x ∷ xs) ys words = (words.0, front xs ys words.1)
 
-back : (xs ys : List Piece) → EachPieceHasWord (xs ++ ys) → EachPieceHasWord ys
+back : (xs ys : List SpelledPiece) → EachPieceHasWord (xs ++ ys) → EachPieceHasWord ys
 back [] ys words = words
 back (x ∷ xs) ys words = back xs ys words.1
 
 -- what stands in front of two lists
-first : (xs ys zs : List Piece) → EachPieceHasWord (xs ++ ys ++ zs) → EachPieceHasWord xs
+first : (xs ys zs : List SpelledPiece) → EachPieceHasWord (xs ++ ys ++ zs) → EachPieceHasWord xs
 first xs ys zs words = front xs ys (front (xs ++ ys) zs words)
 
 -- the places that a piece keeps say nothing of its word
-unplaced : (from : ℕ) (xs : List Piece) → EachPieceHasWord (placed from xs) → EachPieceHasWord xs
+unplaced : (from : ℕ) (xs : List SpelledPiece) → EachPieceHasWord (place_first from xs) → EachPieceHasWord xs
 unplaced from [] words = tt
 unplaced from (x ∷ xs) words = words
 

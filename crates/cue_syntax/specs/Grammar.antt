@@ -7,7 +7,7 @@ use Rattle.cue_syntax.specs.declared.tree.Identifier.{Identifier}
 use Rattle.cue_syntax.specs.declared.tree.Identifier.TheVariants as identifiers
 use Rattle.cue_lex.specs.declared.token.TokenKind.TheVariants as kinds
 use Rattle.cue_lex.specs.declared.punctuation.Punctuation.TheVariants as points
-use Rattle.cue_syntax.specs.Spelling.{Reads, one, comma_if, spell, spell_elements, spell_branch}
+use Rattle.cue_syntax.specs.Spelling.{SpellsTree, one, comma_if, spell, spell_elements, spell_branch}
 use Rattle.cue_syntax.specs.Spelling.{spell_entry, spell_entries, spell_file}
 use Rattle.cue_syntax.specs.declared.tree.Package.{Package}
 use Rattle.cue_syntax.specs.declared.tree.Sign.{Sign}
@@ -35,12 +35,12 @@ IsOperand (identifiers.Definition t) = ⊤
 IsOperand (identifiers.Hidden t) = ⊤
 
 -- the greatest magnitude of an integer with this sign, which has 64 bits
-abbrev pub greatest : Sign → ℕ
-greatest signs.Minus = 9223372036854775808
-greatest _ = 9223372036854775807
+abbrev pub greatest_magnitude : Sign → ℕ
+greatest_magnitude signs.Minus = 9223372036854775808
+greatest_magnitude _ = 9223372036854775807
 
 abbrev pub IsInRange : Signed → Type 0
-IsInRange n = n.magnitude ≤ greatest n.sign
+IsInRange n = n.magnitude ≤ greatest_magnitude n.sign
 
 -- neither a conjunction nor a disjunction
 abbrev pub IsUnary : Expression → Type 0
@@ -176,38 +176,38 @@ abbrev mutual
 -- The tokens up to the rest are a tree of the grammar, which opens at most so many levels.
 pub record IsExpression (room : ℕ) (tokens : List Token) (e : Expression)
     (rest : List Token) : Type 0 where
-  pub reads : Reads tokens (spell e) rest
+  pub reads : SpellsTree tokens (spell e) rest
   pub right : IsRight e
   pub levels : levels e ≤ room
 
 pub record IsTermOf (room : ℕ) (tokens : List Token) (b : Branch) (rest : List Token) : Type 0 where
-  pub reads : Reads tokens (spell_branch b) rest
+  pub reads : SpellsTree tokens (spell_branch b) rest
   pub right : IsRightBranch b
   pub levels : levels_of_branch b ≤ room
 
 pub record IsEntry (room : ℕ) (tokens : List Token) (e : Entry) (rest : List Token) : Type 0 where
-  pub reads : Reads tokens (spell_entry e) rest
+  pub reads : SpellsTree tokens (spell_entry e) rest
   pub right : IsRightEntry e
   pub levels : levels_of_entry e ≤ room
 
 -- an expression that holds no other
 pub record IsLiteral (tokens : List Token) (e : Expression) (rest : List Token) : Type 0 where
-  pub reads : Reads tokens (spell e) rest
+  pub reads : SpellsTree tokens (spell e) rest
   pub right : IsRight e
   pub unary : IsUnary e
   pub levels : levels e ≡ 0
 
 -- elements and then a comma, where the truth value says that one follows
-pub record AreElements (room : ℕ) (tokens : List Token) (es : Elements) (comma : Bool)
+pub record AreElementTokens (room : ℕ) (tokens : List Token) (es : Elements) (comma : Bool)
     (rest : List Token) : Type 0 where
-  pub reads : Reads tokens (spell_elements (kinds.Mark points.Comma) es ++ comma_if comma) rest
+  pub reads : SpellsTree tokens (spell_elements (kinds.Mark points.Comma) es ++ comma_if comma) rest
   pub right : AreRight es
   pub ends : EndsElements comma no_rest es
   pub levels : levels_of_elements es ≤ room
 
 pub record AreEntries (room : ℕ) (tokens : List Token) (es : Entries) (comma : Bool)
     (rest : List Token) : Type 0 where
-  pub reads : Reads tokens (spell_entries es ++ comma_if comma) rest
+  pub reads : SpellsTree tokens (spell_entries es ++ comma_if comma) rest
   pub right : AreRightEntries es
   pub ends : EndsEntries comma es
   pub levels : levels_of_entries es ≤ room
@@ -215,7 +215,7 @@ pub record AreEntries (room : ℕ) (tokens : List Token) (es : Entries) (comma :
 -- declarations, and the brace that closes them
 pub record AreBraced (room : ℕ) (tokens : List Token) (es : Entries) (comma : Bool)
     (rest : List Token) : Type 0 where
-  pub reads : Reads tokens
+  pub reads : SpellsTree tokens
       (spell_entries es ++ comma_if comma ++ one (kinds.Mark points.CloseBrace)) rest
   pub right : AreRightEntries es
   pub nested : AreNested es
@@ -258,8 +258,8 @@ Within unlimited n = ⊤
 Within (at_most m) n = n ≤ m
 
 -- the tokens are a text of the grammar that keeps within the limit, with this tree
-pub record IsFile (limit : Limit) (tokens : List Token) (file : FileTree) : Type 0 where
-  pub reads : Reads tokens (spell_file file) []
+pub record IsFileTree (limit : Limit) (tokens : List Token) (file : FileTree) : Type 0 where
+  pub reads : SpellsTree tokens (spell_file file) []
   pub clause : IsRightPackage file.package_clause file.declarations
   pub right : AreRightEntries file.declarations
   pub ends : EndsEntries file.comma file.declarations

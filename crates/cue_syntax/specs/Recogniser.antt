@@ -15,13 +15,13 @@ use Rattle.cue_lex.specs.declared.punctuation.Punctuation.{Punctuation}
 use Rattle.cue_lex.specs.declared.punctuation.Punctuation.TheVariants as points
 use Rattle.cue_syntax.specs.declared.stop.Why.{Why}
 use Rattle.cue_syntax.specs.declared.stop.Why.TheVariants as reasons
-use Rattle.cue_syntax.specs.declared.stop.Stop.{Stop}
+use Rattle.cue_syntax.specs.declared.stop.ParserStop.{ParserStop}
 use Rattle.cue_syntax.specs.declared.tree.Label.{Label}
 use Rattle.cue_syntax.specs.declared.tree.Sign.{Sign}
 use Rattle.cue_syntax.specs.declared.tree.Sign.TheVariants as signs
-use Rattle.cue_syntax.specs.Stops.{IsMemory}
-use Rattle.cue_syntax.specs.Grammar.{Limit, unlimited, at_most, Within, greatest}
-use Rattle.cue_syntax.specs.Viability.{Stands, StandsSign, IsMark, IsCallOfClose, IsKeywordName}
+use Rattle.cue_syntax.specs.Stops.{IsMemoryParserStop}
+use Rattle.cue_syntax.specs.Grammar.{Limit, unlimited, at_most, Within, greatest_magnitude}
+use Rattle.cue_syntax.specs.Viability.{IsTokenAt, IsSignAt, IsMark, IsCallOfClose, IsKeywordName}
 
 -- what has still to come
 pub data Goal : Type 0 where
@@ -89,9 +89,9 @@ abbrev pub depth : Stack → ℕ
 depth [] = 0
 depth (goal ∷ goals) = levels_of goal + depth goals
 
-abbrev pub fits : Limit → ℕ → Bool
-fits unlimited n = true
-fits (at_most m) n = nat_le n m
+abbrev pub fits_limit : Limit → ℕ → Bool
+fits_limit unlimited n = true
+fits_limit (at_most m) n = nat_le n m
 
 -- after a label: its mark, and then what follows the colon
 abbrev pub take_mark : Stack → TokenKind → Option Stack
@@ -108,7 +108,7 @@ take_name goals t =
 
 -- an integer with this sign, where it is in range
 abbrev pub take_integer : Sign → Stack → ℕ → Option Stack
-take_integer sign goals n = if nat_le n (greatest sign) then Some goals else None
+take_integer sign goals n = if nat_le n (greatest_magnitude sign) then Some goals else None
 
 abbrev pub take_unary : Stack → TokenKind → Option Stack
 take_unary goals (kinds.Name t) = take_name goals t
@@ -218,104 +218,104 @@ take_dots goals (kinds.Mark points.CloseBracket) = Some goals
 take_dots goals kind = take_expression (bracket ∷ goals) kind
 
 -- One token. behind is what the goals below make of it, where the goal is over before it.
-abbrev pub take : Goal → Stack → Option Stack → TokenKind → Option Stack
-take text goals behind kind = take_text goals kind
-take package_word goals behind kind = take_package goals kind
-take package_end goals behind (kinds.Mark points.Comma) = Some (entries true ∷ goals)
-take package_end goals behind _ = None
-take (entries false) goals behind (kinds.Mark points.CloseBrace) = Some goals
-take (entries top) goals behind kind = take_entry top (more_entries top ∷ goals) kind
-take (more_entries top) goals behind (kinds.Mark points.Comma) = Some (entries top ∷ goals)
-take (more_entries false) goals behind (kinds.Mark points.CloseBrace) = Some goals
-take (more_entries top) goals behind _ = None
-take mark goals behind kind = take_mark goals kind
-take colon goals behind (kinds.Mark points.Colon) = Some goals
-take colon goals behind _ = None
-take value goals behind kind = take_value goals kind
-take (value_name t) goals behind kind = take_value_name t goals behind kind
-take value_text goals behind kind = take_value_text goals behind kind
-take chained goals behind kind = behind
-take expression goals behind kind = take_expression goals kind
-take term goals behind kind = take_term goals kind
-take unary goals behind kind = take_unary goals kind
-take more_parts goals behind (kinds.Mark points.Ampersand) = Some (unary ∷ more_parts ∷ goals)
-take more_parts goals behind _ = behind
-take bar goals behind (kinds.Mark points.Bar) = Some (term ∷ more_terms ∷ goals)
-take bar goals behind _ = None
-take more_terms goals behind (kinds.Mark points.Bar) = Some (term ∷ more_terms ∷ goals)
-take more_terms goals behind _ = behind
-take signed goals behind kind = take_signed goals kind
-take signed_or_text goals behind (kinds.Text t) = Some goals
-take signed_or_text goals behind kind = take_signed goals kind
-take (magnitude sign) goals behind (kinds.Integer n) = take_integer sign goals n
-take (magnitude sign) goals behind _ = None
-take behind_close goals behind (kinds.Mark points.OpenParenthesis) = Some (closed ∷ goals)
-take behind_close goals behind _ = behind
-take closed goals behind (kinds.Mark points.OpenBrace) = Some (entries false ∷ parenthesis ∷ goals)
-take closed goals behind _ = None
-take parenthesis goals behind (kinds.Mark points.Comma) = Some (parenthesis_end ∷ goals)
-take parenthesis goals behind (kinds.Mark points.CloseParenthesis) = Some goals
-take parenthesis goals behind _ = None
-take parenthesis_end goals behind (kinds.Mark points.CloseParenthesis) = Some goals
-take parenthesis_end goals behind _ = None
-take elements goals behind kind = take_element goals kind
-take more_elements goals behind (kinds.Mark points.Comma) = Some (elements ∷ goals)
-take more_elements goals behind (kinds.Mark points.CloseBracket) = Some goals
-take more_elements goals behind _ = None
-take dots goals behind kind = take_dots goals kind
-take bracket goals behind (kinds.Mark points.Comma) = Some (bracket_end ∷ goals)
-take bracket goals behind (kinds.Mark points.CloseBracket) = Some goals
-take bracket goals behind _ = None
-take bracket_end goals behind (kinds.Mark points.CloseBracket) = Some goals
-take bracket_end goals behind _ = None
+abbrev pub take_token : Goal → Stack → Option Stack → TokenKind → Option Stack
+take_token text goals behind kind = take_text goals kind
+take_token package_word goals behind kind = take_package goals kind
+take_token package_end goals behind (kinds.Mark points.Comma) = Some (entries true ∷ goals)
+take_token package_end goals behind _ = None
+take_token (entries false) goals behind (kinds.Mark points.CloseBrace) = Some goals
+take_token (entries top) goals behind kind = take_entry top (more_entries top ∷ goals) kind
+take_token (more_entries top) goals behind (kinds.Mark points.Comma) = Some (entries top ∷ goals)
+take_token (more_entries false) goals behind (kinds.Mark points.CloseBrace) = Some goals
+take_token (more_entries top) goals behind _ = None
+take_token mark goals behind kind = take_mark goals kind
+take_token colon goals behind (kinds.Mark points.Colon) = Some goals
+take_token colon goals behind _ = None
+take_token value goals behind kind = take_value goals kind
+take_token (value_name t) goals behind kind = take_value_name t goals behind kind
+take_token value_text goals behind kind = take_value_text goals behind kind
+take_token chained goals behind kind = behind
+take_token expression goals behind kind = take_expression goals kind
+take_token term goals behind kind = take_term goals kind
+take_token unary goals behind kind = take_unary goals kind
+take_token more_parts goals behind (kinds.Mark points.Ampersand) = Some (unary ∷ more_parts ∷ goals)
+take_token more_parts goals behind _ = behind
+take_token bar goals behind (kinds.Mark points.Bar) = Some (term ∷ more_terms ∷ goals)
+take_token bar goals behind _ = None
+take_token more_terms goals behind (kinds.Mark points.Bar) = Some (term ∷ more_terms ∷ goals)
+take_token more_terms goals behind _ = behind
+take_token signed goals behind kind = take_signed goals kind
+take_token signed_or_text goals behind (kinds.Text t) = Some goals
+take_token signed_or_text goals behind kind = take_signed goals kind
+take_token (magnitude sign) goals behind (kinds.Integer n) = take_integer sign goals n
+take_token (magnitude sign) goals behind _ = None
+take_token behind_close goals behind (kinds.Mark points.OpenParenthesis) = Some (closed ∷ goals)
+take_token behind_close goals behind _ = behind
+take_token closed goals behind (kinds.Mark points.OpenBrace) = Some (entries false ∷ parenthesis ∷ goals)
+take_token closed goals behind _ = None
+take_token parenthesis goals behind (kinds.Mark points.Comma) = Some (parenthesis_end ∷ goals)
+take_token parenthesis goals behind (kinds.Mark points.CloseParenthesis) = Some goals
+take_token parenthesis goals behind _ = None
+take_token parenthesis_end goals behind (kinds.Mark points.CloseParenthesis) = Some goals
+take_token parenthesis_end goals behind _ = None
+take_token elements goals behind kind = take_element goals kind
+take_token more_elements goals behind (kinds.Mark points.Comma) = Some (elements ∷ goals)
+take_token more_elements goals behind (kinds.Mark points.CloseBracket) = Some goals
+take_token more_elements goals behind _ = None
+take_token dots goals behind kind = take_dots goals kind
+take_token bracket goals behind (kinds.Mark points.Comma) = Some (bracket_end ∷ goals)
+take_token bracket goals behind (kinds.Mark points.CloseBracket) = Some goals
+take_token bracket goals behind _ = None
+take_token bracket_end goals behind (kinds.Mark points.CloseBracket) = Some goals
+take_token bracket_end goals behind _ = None
 
 -- The end of the text. behind says whether the goals below are over there.
-abbrev pub over : Goal → Bool → Bool
-over text behind = true
-over package_end behind = true
-over (entries true) behind = true
-over (more_entries true) behind = true
-over (value_name t) behind = if is_keyword t then false else behind
-over value_text behind = behind
-over chained behind = behind
-over more_parts behind = behind
-over more_terms behind = behind
-over behind_close behind = behind
-over _ behind = false
+abbrev pub goal_is_over : Goal → Bool → Bool
+goal_is_over text behind = true
+goal_is_over package_end behind = true
+goal_is_over (entries true) behind = true
+goal_is_over (more_entries true) behind = true
+goal_is_over (value_name t) behind = if is_keyword t then false else behind
+goal_is_over value_text behind = behind
+goal_is_over chained behind = behind
+goal_is_over more_parts behind = behind
+goal_is_over more_terms behind = behind
+goal_is_over behind_close behind = behind
+goal_is_over _ behind = false
 
 -- the stack after a token, if one of the grammar can follow
-abbrev pub step : Stack → TokenKind → Option Stack
-step [] kind = None
-step (goal ∷ goals) kind = take goal goals (step goals kind) kind
+abbrev pub step_stack : Stack → TokenKind → Option Stack
+step_stack [] kind = None
+step_stack (goal ∷ goals) kind = take_token goal goals (step_stack goals kind) kind
 
 abbrev pub is_over : Stack → Bool
 is_over [] = false
-is_over (goal ∷ goals) = over goal (is_over goals)
+is_over (goal ∷ goals) = goal_is_over goal (is_over goals)
 
 -- Where the tokens leave the grammar, and the tokens from there on: none of them where the end of
 -- the text can't stand after the last one. None where they are a whole text.
-abbrev pub stuck_behind : Limit → Option Stack → List Token → (Stack → Option (List Token))
+abbrev pub rest_where_stuck_behind : Limit → Option Stack → List Token → (Stack → Option (List Token))
     → Option (List Token)
-stuck_behind limit None here further = Some here
-stuck_behind limit (Some goals) here further =
-    if fits limit (depth goals) then further goals else Some here
+rest_where_stuck_behind limit None here further = Some here
+rest_where_stuck_behind limit (Some goals) here further =
+    if fits_limit limit (depth goals) then further goals else Some here
 
-abbrev pub stuck : Limit → Stack → List Token → Option (List Token)
-stuck limit goals [] = if is_over goals then None else Some []
-stuck limit goals (token ∷ tokens) =
-    stuck_behind limit (step goals token.kind) (token ∷ tokens) (λ next. stuck limit next tokens)
+abbrev pub rest_where_stuck : Limit → Stack → List Token → Option (List Token)
+rest_where_stuck limit goals [] = if is_over goals then None else Some []
+rest_where_stuck limit goals (token ∷ tokens) =
+    rest_where_stuck_behind limit (step_stack goals token.kind) (token ∷ tokens) (λ next. rest_where_stuck limit next tokens)
 
 -- the levels below count too
-abbrev pub raise : ℕ → Limit → Limit
-raise n unlimited = unlimited
-raise n (at_most m) = at_most (n + m)
+abbrev pub raise_limit : ℕ → Limit → Limit
+raise_limit n unlimited = unlimited
+raise_limit n (at_most m) = at_most (n + m)
 
 -- what comes after an expression takes neither a parenthesis nor the mark of a label
-pub record Closes (below : Stack) : Type 0 where
-  pub call : step below (kinds.Mark points.OpenParenthesis) ≡ None
-  pub colon : step below (kinds.Mark points.Colon) ≡ None
-  pub question : step below (kinds.Mark points.Question) ≡ None
-  pub exclamation : step below (kinds.Mark points.Exclamation) ≡ None
+pub record EndsExpression (below : Stack) : Type 0 where
+  pub call : step_stack below (kinds.Mark points.OpenParenthesis) ≡ None
+  pub colon : step_stack below (kinds.Mark points.Colon) ≡ None
+  pub question : step_stack below (kinds.Mark points.Question) ≡ None
+  pub exclamation : step_stack below (kinds.Mark points.Exclamation) ≡ None
 
 -- the levels that the labels of a chain open
 abbrev pub chains : List Label → Stack
@@ -329,32 +329,32 @@ row_goal first more false [] = first
 row_goal first more false (item ∷ items) = more
 
 -- whatever has to come after the goals, the tokens leave the grammar here
-abbrev pub Sticks : Limit → Stack → List Token → List Token → Type 0
-Sticks limit goals tokens here =
-    (below : Stack) → Closes below
-    → stuck (raise (depth below) limit) (goals ++ below) tokens ≡ Some here
+abbrev pub StopsBefore : Limit → Stack → List Token → List Token → Type 0
+StopsBefore limit goals tokens here =
+    (below : Stack) → EndsExpression below
+    → rest_where_stuck (raise_limit (depth below) limit) (goals ++ below) tokens ≡ Some here
 
 -- the tokens from a place on are the last of the tokens
-pub record IsEnd (tokens at : List Token) : Type 0 where
+pub record IsGoalEnd (tokens at : List Token) : Type 0 where
   pub read : List Token
   pub is : tokens ≡ read ++ at
 
 -- Up to b the goals have been read as far as the next ones, within so many levels.
-pub record Moves (room : ℕ) (goals : Stack) (a : List Token) (next : Stack)
+pub record MovesStack (room : ℕ) (goals : Stack) (a : List Token) (next : Stack)
     (b : List Token) : Type 0 where
-  pub inside : IsEnd a b
+  pub inside : IsGoalEnd a b
   pub moves : (limit : Limit) (below : Stack) → Within limit (depth below + room)
-      → stuck limit (goals ++ below) a ≡ stuck limit (next ++ below) b
+      → rest_where_stuck limit (goals ++ below) a ≡ rest_where_stuck limit (next ++ below) b
 
 -- within so many levels the tokens are read up to a place
-pub record GoesOn (room : ℕ) (goals : Stack) (tokens at : List Token) : Type 0 where
+pub record ReadsUpTo (room : ℕ) (goals : Stack) (tokens at : List Token) : Type 0 where
   pub next : Stack
-  pub moves : Moves room goals tokens next at
+  pub moves : MovesStack room goals tokens next at
 
 -- the parenthesis of a `close(` is here
 pub record IsCallHere (tokens here : List Token) : Type 0 where
   pub name : List Token
-  pub inside : IsEnd tokens name
+  pub inside : IsGoalEnd tokens name
   pub call : IsCallOfClose name
   pub behind : drop 1 name ≡ here
 
@@ -363,14 +363,14 @@ pub record IsCallHere (tokens here : List Token) : Type 0 where
 pub record Owes (room : ℕ) (goals : Stack) (tokens at : List Token) : Type 0 where
   pub before : List Token
   pub next : drop 1 before ≡ at
-  pub sticks : Sticks (at_most room) goals tokens before
-  pub goes_on : GoesOn (1 + room) goals tokens at
-  pub why : Stands IsKeywordName before ⊎ IsCallHere tokens before
+  pub sticks : StopsBefore (at_most room) goals tokens before
+  pub goes_on : ReadsUpTo (1 + room) goals tokens at
+  pub why : IsTokenAt IsKeywordName before ⊎ IsCallHere tokens before
 
 -- before a place no symbol opens a level too many
 abbrev pub StaysWithin : ℕ → Stack → List Token → List Token → Type 0
 StaysWithin room goals tokens at =
-    Sticks (at_most room) goals tokens at ⊎ Owes room goals tokens at
+    StopsBefore (at_most room) goals tokens at ⊎ Owes room goals tokens at
 
 -- an expression can begin with the goal
 abbrev pub BeginsOperand : Goal → Type 0
@@ -391,7 +391,7 @@ pub record FollowsMark (tokens at : List Token) : Type 0 where
   pub token : Token
   pub mark : Punctuation
   pub kind : token.kind ≡ kinds.Mark mark
-  pub inside : IsEnd tokens (token ∷ at)
+  pub inside : IsGoalEnd tokens (token ∷ at)
 
 -- an operand begins at a place: the goals do so there, or a mark stands before it
 abbrev pub IsOperandHere : Stack → List Token → List Token → Type 0
@@ -410,32 +410,32 @@ OpensAlone _ = ⊥
 -- too few for it.
 abbrev pub OpensItself : ℕ → Stack → List Token → List Token → Type 0
 OpensItself room goals tokens here =
-    Stands OpensAlone here
-    ⊎ (StandsSign (kinds.Mark points.OpenParenthesis) here
-    × (IsOperandHere goals tokens here ⊎ Sticks (at_most (1 + room)) goals tokens here))
+    IsTokenAt OpensAlone here
+    ⊎ (IsSignAt (kinds.Mark points.OpenParenthesis) here
+    × (IsOperandHere goals tokens here ⊎ StopsBefore (at_most (1 + room)) goals tokens here))
 
 -- The first symbol that opens a level too many is here. A place names it, or the label before it,
 -- where it is a mark.
 pub record OpensNear (room : ℕ) (goals : Stack) (tokens at : List Token) : Type 0 where
   pub here : List Token
   pub within : StaysWithin room goals tokens here
-  pub goes_on : GoesOn (2 + room) goals tokens (drop 1 here)
+  pub goes_on : ReadsUpTo (2 + room) goals tokens (drop 1 here)
   pub opens : OpensItself room goals tokens here
-  pub near : ((at ≡ here) × ¬ Stands IsMark here) ⊎ ((drop 1 at ≡ here) × Stands IsMark here)
+  pub near : ((at ≡ here) × ¬ IsTokenAt IsMark here) ⊎ ((drop 1 at ≡ here) × IsTokenAt IsMark here)
 
-abbrev pub SticksBy : ℕ → Stack → List Token → Why → List Token → Type 0
-SticksBy room goals tokens (reasons.Memory memory) at = ⊥
-SticksBy room goals tokens reasons.Syntax at =
-    Sticks unlimited goals tokens at × StaysWithin room goals tokens at
-SticksBy room goals tokens reasons.Nesting at = OpensNear room goals tokens at
+abbrev pub StopsBeforeBy : ℕ → Stack → List Token → Why → List Token → Type 0
+StopsBeforeBy room goals tokens (reasons.Memory memory) at = ⊥
+StopsBeforeBy room goals tokens reasons.Syntax at =
+    StopsBefore unlimited goals tokens at × StaysWithin room goals tokens at
+StopsBeforeBy room goals tokens reasons.Nesting at = OpensNear room goals tokens at
 
 -- Why and where the parser stops at tokens that the goals have to read.
-pub record Stops (room end : ℕ) (goals : Stack) (tokens : List Token) (stop : Stop) : Type 0 where
+pub record ParserStops (room end : ℕ) (goals : Stack) (tokens : List Token) (stop : ParserStop) : Type 0 where
   pub at : List Token
-  pub inside : IsEnd tokens at
+  pub inside : IsGoalEnd tokens at
   pub left : stop.left ≡ length at
-  pub by : SticksBy room goals tokens stop.why at
+  pub by : StopsBeforeBy room goals tokens stop.why at
 
 -- The parser stops for want of memory, or because the goals can't read the tokens.
-pub record Refused (room end : ℕ) (goals : Stack) (tokens : List Token) (stop : Stop) : Type 0 where
-  pub why : IsMemory stop ⊎ Stops room end goals tokens stop
+pub record ParserRefusesAt (room end : ℕ) (goals : Stack) (tokens : List Token) (stop : ParserStop) : Type 0 where
+  pub why : IsMemoryParserStop stop ⊎ ParserStops room end goals tokens stop

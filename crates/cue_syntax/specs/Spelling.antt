@@ -26,26 +26,26 @@ use Rattle.cue_syntax.specs.Syntax.{Branches, no_branches, next_branch, Entry, e
 use Rattle.cue_syntax.specs.Syntax.{definition, Entries, no_entries, entry}
 
 -- a token as far as a tree knows it: its kind, and the places that the tree keeps of it
-pub record Piece : Type 0 where
+pub record SpelledPiece : Type 0 where
   pub kind : TokenKind
   pub places : List ℕ
 
-abbrev pub one : TokenKind → List Piece
+abbrev pub one : TokenKind → List SpelledPiece
 one kind = record { kind = kind; places = [] } ∷ []
 
-abbrev pub one_at : ℕ → TokenKind → List Piece
+abbrev pub one_at : ℕ → TokenKind → List SpelledPiece
 one_at from kind = record { kind = kind; places = from ∷ [] } ∷ []
 
 -- the first token stands at this place too
-abbrev pub placed : ℕ → List Piece → List Piece
-placed from [] = []
-placed from (piece ∷ pieces) = record { kind = piece.kind; places = from ∷ piece.places } ∷ pieces
+abbrev pub place_first : ℕ → List SpelledPiece → List SpelledPiece
+place_first from [] = []
+place_first from (piece ∷ pieces) = record { kind = piece.kind; places = from ∷ piece.places } ∷ pieces
 
-abbrev pub comma_if : Bool → List Piece
+abbrev pub comma_if : Bool → List SpelledPiece
 comma_if true = one (kinds.Mark points.Comma)
 comma_if false = []
 
-abbrev pub star_if : Bool → List Piece
+abbrev pub star_if : Bool → List SpelledPiece
 star_if true = one (kinds.Mark points.Star)
 star_if false = []
 
@@ -60,34 +60,34 @@ comparison_kind comparisons.AtMost = (kinds.Mark points.AtMost)
 comparison_kind comparisons.Greater = (kinds.Mark points.Greater)
 comparison_kind comparisons.AtLeast = (kinds.Mark points.AtLeast)
 
-abbrev pub spell_sign : Sign → List Piece
+abbrev pub spell_sign : Sign → List SpelledPiece
 spell_sign signs.Absent = []
 spell_sign signs.Minus = one (kinds.Mark points.Minus)
 spell_sign signs.Plus = one (kinds.Mark points.Plus)
 
-abbrev pub spell_signed : Signed → List Piece
+abbrev pub spell_signed : Signed → List SpelledPiece
 spell_signed n = spell_sign n.sign ++ one (kinds.Integer n.magnitude)
 
 abbrev pub label_kind : LabelName → TokenKind
 label_kind (names.Plain t) = kinds.Name t
 label_kind (names.Quoted t) = kinds.Text t
 
-abbrev pub spell_mark : Mark → List Piece
+abbrev pub spell_mark : Mark → List SpelledPiece
 spell_mark marks.Regular = []
 spell_mark marks.Optional = one (kinds.Mark points.Question)
 spell_mark marks.Required = one (kinds.Mark points.Exclamation)
 
-abbrev pub spell_label : Label → List Piece
+abbrev pub spell_label : Label → List SpelledPiece
 spell_label label =
     one (label_kind label.name) ++ spell_mark label.mark ++ one (kinds.Mark points.Colon)
 
 -- the `...` of a list, after a comma where elements stand before it
-abbrev pub spell_dots : Elements → List Piece
+abbrev pub spell_dots : Elements → List SpelledPiece
 spell_dots no_elements = one (kinds.Mark points.Ellipsis)
 spell_dots (element e es) = one (kinds.Mark points.Comma) ++ one (kinds.Mark points.Ellipsis)
 
 abbrev mutual
-  pub spell : Expression → List Piece
+  pub spell : Expression → List SpelledPiece
   spell (name n from) = one_at from (identifier_kind n)
   spell (integer n) = spell_signed n
   spell (text t) = one (kinds.Text t)
@@ -113,73 +113,73 @@ abbrev mutual
   spell (disjunction bs) = spell_branches bs
 
   -- the rest of a list, behind these elements
-  pub spell_rest : Elements → Rest → List Piece
+  pub spell_rest : Elements → Rest → List SpelledPiece
   spell_rest es no_rest = []
   spell_rest es any_rest = spell_dots es
   spell_rest es (each_rest e) = spell_dots es ++ spell e
 
   -- expressions with a sign between them
-  pub spell_elements : TokenKind → Elements → List Piece
+  pub spell_elements : TokenKind → Elements → List SpelledPiece
   spell_elements sign no_elements = []
   spell_elements sign (element e es) = spell e ++ spell_more_elements sign es
 
-  pub spell_more_elements : TokenKind → Elements → List Piece
+  pub spell_more_elements : TokenKind → Elements → List SpelledPiece
   spell_more_elements sign no_elements = []
   spell_more_elements sign (element e es) = one sign ++ spell e ++ spell_more_elements sign es
 
-  pub spell_branch : Branch → List Piece
-  spell_branch (branch marked from e) = star_if marked ++ placed from (spell e)
+  pub spell_branch : Branch → List SpelledPiece
+  spell_branch (branch marked from e) = star_if marked ++ place_first from (spell e)
 
-  pub spell_branches : Branches → List Piece
+  pub spell_branches : Branches → List SpelledPiece
   spell_branches no_branches = []
   spell_branches (next_branch b bs) = spell_branch b ++ spell_more_branches bs
 
-  pub spell_more_branches : Branches → List Piece
+  pub spell_more_branches : Branches → List SpelledPiece
   spell_more_branches no_branches = []
   spell_more_branches (next_branch b bs) =
       one (kinds.Mark points.Bar) ++ spell_branch b ++ spell_more_branches bs
 
-  pub spell_entry : Entry → List Piece
+  pub spell_entry : Entry → List SpelledPiece
   spell_entry ellipsis = one (kinds.Mark points.Ellipsis)
   spell_entry (field label chain e) = spell_label label ++ flat_map spell_label chain ++ spell e
   spell_entry (definition t from chain e) =
       one_at from (kinds.Definition t) ++ one (kinds.Mark points.Colon)
       ++ flat_map spell_label chain ++ spell e
 
-  pub spell_entries : Entries → List Piece
+  pub spell_entries : Entries → List SpelledPiece
   spell_entries no_entries = []
   spell_entries (entry e es) = spell_entry e ++ spell_more_entries es
 
-  pub spell_more_entries : Entries → List Piece
+  pub spell_more_entries : Entries → List SpelledPiece
   spell_more_entries no_entries = []
   spell_more_entries (entry e es) =
       one (kinds.Mark points.Comma) ++ spell_entry e ++ spell_more_entries es
 
-abbrev pub spell_package : Option Package → List Piece
+abbrev pub spell_package : Option Package → List SpelledPiece
 spell_package None = []
 spell_package (Some clause) =
     one (kinds.Name (codes "package")) ++ one (identifier_kind clause.name) ++ comma_if clause.comma
 
-abbrev pub spell_file : FileTree → List Piece
+abbrev pub spell_file : FileTree → List SpelledPiece
 spell_file file =
     spell_package file.package_clause ++ spell_entries file.declarations ++ comma_if file.comma
 
 -- the token begins at each of the places
-abbrev pub StandsAt : Token → List ℕ → Type 0
-StandsAt token [] = Unit {0}
-StandsAt token (place ∷ places) = (token.from ≡ place) × StandsAt token places
+abbrev pub BeginsAtEach : Token → List ℕ → Type 0
+BeginsAtEach token [] = Unit {0}
+BeginsAtEach token (place ∷ places) = (token.from ≡ place) × BeginsAtEach token places
 
 -- the tokens are these pieces, and then the rest
-abbrev pub Follows : List Token → List Piece → List Token → Type 0
+abbrev pub Follows : List Token → List SpelledPiece → List Token → Type 0
 Follows tokens [] rest = tokens ≡ rest
 Follows [] (piece ∷ pieces) rest = ⊥
 Follows (token ∷ tokens) (piece ∷ pieces) rest =
-    (token.kind ≡ piece.kind) × StandsAt token piece.places × Follows tokens pieces rest
+    (token.kind ≡ piece.kind) × BeginsAtEach token piece.places × Follows tokens pieces rest
 
-pub record Reads (tokens : List Token) (pieces : List Piece) (rest : List Token) : Type 0 where
+pub record SpellsTree (tokens : List Token) (pieces : List SpelledPiece) (rest : List Token) : Type 0 where
   pub follows : Follows tokens pieces rest
 
 -- the place is that of the first token, where one is left
-abbrev pub IsPlace : List Token → ℕ → Type 0
-IsPlace [] from = Unit {0}
-IsPlace (token ∷ tokens) from = token.from ≡ from
+abbrev pub IsTokenPlace : List Token → ℕ → Type 0
+IsTokenPlace [] from = Unit {0}
+IsTokenPlace (token ∷ tokens) from = token.from ≡ from

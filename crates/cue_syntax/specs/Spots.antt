@@ -6,8 +6,8 @@ use Rattle.cue_lex.specs.declared.token.Token.{Token}
 use Rattle.cue_lex.specs.declared.token.TokenKind.{TokenKind}
 use Rattle.cue_lex.specs.declared.token.TokenKind.TheVariants as kinds
 use Rattle.cue_lex.specs.declared.punctuation.Punctuation.TheVariants as points
-use Rattle.cue_syntax.specs.declared.spot.Spot.{Spot}
-use Rattle.cue_syntax.specs.declared.spot.Spot.TheVariants as spots
+use Rattle.cue_syntax.specs.declared.spot.Position.{Position}
+use Rattle.cue_syntax.specs.declared.spot.Position.TheVariants as spots
 use Rattle.cue_syntax.specs.declared.spot.Inside.{Inside}
 use Rattle.cue_syntax.specs.declared.spot.Inside.TheVariants as insides
 
@@ -15,9 +15,9 @@ abbrev pub is_close : List ℕ → Bool
 is_close name = pointwise nat_eq name (codes "close")
 
 -- What is open, the innermost first. At the top of the text nothing is.
-abbrev pub innermost : List Inside → Option Inside
-innermost [] = None
-innermost (inside ∷ opened) = Some inside
+abbrev pub innermost_open : List Inside → Option Inside
+innermost_open [] = None
+innermost_open (inside ∷ opened) = Some inside
 
 -- a list takes no further element after its `...`
 abbrev pub after_ellipsis : List Inside → List Inside
@@ -36,26 +36,26 @@ open_after opened (kinds.Mark points.Ellipsis) = after_ellipsis opened
 open_after opened _ = opened
 
 -- after a comma: the next declaration of the text or of a struct, or the next element of a list
-abbrev pub after_comma : Option Inside → Spot
+abbrev pub after_comma : Option Inside → Position
 after_comma None = spots.Top
 after_comma (Some insides.Struct) = spots.Inner
 after_comma (Some insides.List) = spots.Operand
 after_comma _ = spots.Other
 
 -- after `...`: of the text or a struct, or of a list, where an operand may follow
-abbrev pub after_dots : Option Inside → Spot
+abbrev pub after_dots : Option Inside → Position
 after_dots None = spots.Ellipsis
 after_dots (Some insides.Struct) = spots.Ellipsis
 after_dots (Some insides.List) = spots.Operand
 after_dots _ = spots.Other
 
 -- after `(`: an operand, or the argument of a `close`
-abbrev pub after_parenthesis : Spot → Spot
+abbrev pub after_parenthesis : Position → Position
 after_parenthesis spots.CloseName = spots.CloseArgument
 after_parenthesis _ = spots.Operand
 
 -- the spot after a token, by what is open around that token and by its own spot
-abbrev pub spot_after : Option Inside → Spot → TokenKind → Spot
+abbrev pub spot_after : Option Inside → Position → TokenKind → Position
 spot_after inside spot (kinds.Mark points.Colon) = spots.Value
 spot_after inside spot (kinds.Mark points.OpenBrace) = spots.Inner
 spot_after inside spot (kinds.Mark points.OpenBracket) = spots.Operand
@@ -74,11 +74,11 @@ spot_after inside spot (kinds.Name t) = if is_close t then spots.CloseName else 
 spot_after inside spot _ = spots.Other
 
 -- the spot after tokens, from an earlier spot on
-abbrev pub spot_from : List Inside → Spot → List Token → Spot
+abbrev pub spot_from : List Inside → Position → List Token → Position
 spot_from opened spot [] = spot
 spot_from opened spot (token ∷ tokens) =
-    spot_from (open_after opened token.kind) (spot_after (innermost opened) spot token.kind) tokens
+    spot_from (open_after opened token.kind) (spot_after (innermost_open opened) spot token.kind) tokens
 
 -- the spot of the symbol that these tokens stand before
-abbrev pub spot_of : List Token → Spot
+abbrev pub spot_of : List Token → Position
 spot_of before = spot_from [] spots.Top before

@@ -63,13 +63,13 @@ abbrev pub elements_of : List Expression → Elements
 elements_of [] = no_elements
 elements_of (e ∷ es) = element e (elements_of es)
 
-abbrev pub branches_of : List Branch → Branches
-branches_of [] = no_branches
-branches_of (b ∷ bs) = next_branch b (branches_of bs)
+abbrev pub branches_in : List Branch → Branches
+branches_in [] = no_branches
+branches_in (b ∷ bs) = next_branch b (branches_in bs)
 
-abbrev pub entries_of : List Entry → Entries
-entries_of [] = no_entries
-entries_of (e ∷ es) = entry e (entries_of es)
+abbrev pub entries_in : List Entry → Entries
+entries_in [] = no_entries
+entries_in (e ∷ es) = entry e (entries_in es)
 
 -- one level, with the trees of what stands inside
 abbrev pub entry_step : Declaration-F Entry Expression Rest Branch → Entry
@@ -86,11 +86,11 @@ expression_step (Expr-F.Bound c n) = bound c n
 expression_step (Expr-F.OtherInteger n) = other_integer n
 expression_step (Expr-F.OtherText t) = other_text t
 expression_step (Expr-F.Parenthesis inner comma) = parenthesis inner.value comma
-expression_step (Expr-F.Struct es comma) = struct (entries_of es.items) comma
-expression_step (Expr-F.Close from es inner comma) = close from (entries_of es.items) inner comma
+expression_step (Expr-F.Struct es comma) = struct (entries_in es.items) comma
+expression_step (Expr-F.Close from es inner comma) = close from (entries_in es.items) inner comma
 expression_step (Expr-F.List es rest comma) = list (elements_of es.items) rest comma
 expression_step (Expr-F.Conjunction es) = conjunction (elements_of es.items)
-expression_step (Expr-F.Disjunction bs) = disjunction (branches_of bs.items)
+expression_step (Expr-F.Disjunction bs) = disjunction (branches_in bs.items)
 
 abbrev pub rest_step : Rest-F Entry Expression Rest Branch → Rest
 rest_step Rest-F.Ends = no_rest
@@ -105,8 +105,8 @@ abbrev pub expression : Expr → Expression
 expression =
     fold-Expr Entry Expression Rest Branch entry_step expression_step rest_step branch_step
 
-abbrev pub rest_tree : code.Rest → Rest
-rest_tree =
+abbrev pub rest_of_tree : code.Rest → Rest
+rest_of_tree =
     fold-Rest Entry Expression Rest Branch entry_step expression_step rest_step branch_step
 
 abbrev pub branch_tree : Term → Branch
@@ -117,14 +117,14 @@ abbrev pub entry_tree : Declaration → Entry
 entry_tree =
     fold-Declaration Entry Expression Rest Branch entry_step expression_step rest_step branch_step
 
-abbrev pub elements : List Expr → Elements
-elements es = elements_of (map expression es)
+abbrev pub elements_of_list : List Expr → Elements
+elements_of_list es = elements_of (map expression es)
 
-abbrev pub branches : List Term → Branches
-branches ts = branches_of (map branch_tree ts)
+abbrev pub branches_of_list : List Term → Branches
+branches_of_list ts = branches_in (map branch_tree ts)
 
 abbrev pub entries : List Declaration → Entries
-entries ds = entries_of (map entry_tree ds)
+entries ds = entries_in (map entry_tree ds)
 
 -- a whole text: its package clause, if any, its declarations, and whether a comma stands after the
 -- last one

@@ -5,34 +5,34 @@ use Rattle.cue_lex.specs.declared.token.Token.{Token}
 use Rattle.cue_lex.specs.declared.token.TokenKind.{TokenKind}
 use Rattle.cue_lex.specs.declared.token.TokenKind.TheVariants as kinds
 use Rattle.cue_lex.specs.declared.punctuation.Punctuation.TheVariants as points
-use Rattle.cue_syntax.specs.declared.stop.Stop.{Stop}
+use Rattle.cue_syntax.specs.declared.stop.ParserStop.{ParserStop}
 use Rattle.cue_syntax.specs.declared.stop.Why.TheVariants as reasons
 use Rattle.cue_syntax.specs.Stops.{at_hand}
 use Rattle.cue_syntax.specs.Syntax.{FileTree}
-use Rattle.cue_syntax.specs.Grammar.{Limit, IsFile, IsClause, IsKeyword}
+use Rattle.cue_syntax.specs.Grammar.{Limit, IsFileTree, IsClause, IsKeyword}
 
 -- alike in their first n symbols, where the end of a text is a symbol too
 abbrev pub Alike : ℕ → List Token → List Token → Type 0
 Alike n a b = take n a ≡ take n b
 
 -- the first n symbols begin some text of the grammar, within the limit of levels
-pub record Begins (limit : Limit) (n : ℕ) (tokens : List Token) : Type 0 where
+pub record BeginsText (limit : Limit) (n : ℕ) (tokens : List Token) : Type 0 where
   pub whole : List Token
   pub tree : FileTree
   pub alike : Alike n tokens whole
-  pub is : IsFile limit whole tree
+  pub is : IsFileTree limit whole tree
 
 -- After k tokens the tokens leave the grammar: those k begin a text, and with the next symbol they
 -- begin none.
 pub record Leaves (limit : Limit) (tokens : List Token) (k : ℕ) : Type 0 where
   pub inside : k ≤ length tokens
-  pub before : Begins limit k tokens
-  pub behind : ¬ Begins limit (suc k) tokens
+  pub before : BeginsText limit k tokens
+  pub behind : ¬ BeginsText limit (suc k) tokens
 
 -- where a symbol stands: a token, or the end of the text
-abbrev pub place_of : ℕ → List Token → ℕ
-place_of end [] = end
-place_of end (token ∷ tokens) = token.from
+abbrev pub place_of_symbol : ℕ → List Token → ℕ
+place_of_symbol end [] = end
+place_of_symbol end (token ∷ tokens) = token.from
 
 abbrev pub IsMark : TokenKind → Type 0
 IsMark (kinds.Mark points.Colon) = ⊤
@@ -90,17 +90,17 @@ IsDefinition (kinds.Definition t) = ⊤
 IsDefinition _ = ⊥
 
 -- the first of the tokens is so
-abbrev pub Stands : (TokenKind → Type 0) → List Token → Type 0
-Stands P [] = ⊥
-Stands P (token ∷ tokens) = P token.kind
+abbrev pub IsTokenAt : (TokenKind → Type 0) → List Token → Type 0
+IsTokenAt P [] = ⊥
+IsTokenAt P (token ∷ tokens) = P token.kind
 
 abbrev pub Next : (TokenKind → Type 0) → List Token → Type 0
 Next P [] = ⊥
-Next P (token ∷ tokens) = Stands P tokens
+Next P (token ∷ tokens) = IsTokenAt P tokens
 
 -- this sign stands first
-abbrev pub StandsSign : TokenKind → List Token → Type 0
-StandsSign sign = Stands (λ k. k ≡ sign)
+abbrev pub IsSignAt : TokenKind → List Token → Type 0
+IsSignAt sign = IsTokenAt (λ k. k ≡ sign)
 
 abbrev pub NextSign : TokenKind → List Token → Type 0
 NextSign sign = Next (λ k. k ≡ sign)
@@ -112,19 +112,19 @@ IsLabelName (kinds.Text t) = ⊤
 IsLabelName _ = ⊥
 
 abbrev pub BeginsLabel : List Token → Type 0
-BeginsLabel ts = Stands IsLabelName ts × Next IsMark ts
+BeginsLabel ts = IsTokenAt IsLabelName ts × Next IsMark ts
 
 -- a label, a `?` or `!` after it, and then no colon
 abbrev pub LacksColon : List Token → Type 0
 LacksColon ts =
-    Stands IsLabelName ts
+    IsTokenAt IsLabelName ts
     × (NextSign (kinds.Mark points.Question) ts ⊎ NextSign (kinds.Mark points.Exclamation) ts)
-    × ¬ StandsSign (kinds.Mark points.Colon) (drop 2 ts)
+    × ¬ IsSignAt (kinds.Mark points.Colon) (drop 2 ts)
 
 -- `close` and a parenthesis
 abbrev pub IsCallOfClose : List Token → Type 0
 IsCallOfClose ts =
-    StandsSign (kinds.Name (codes "close")) ts × NextSign (kinds.Mark points.OpenParenthesis) ts
+    IsSignAt (kinds.Name (codes "close")) ts × NextSign (kinds.Mark points.OpenParenthesis) ts
 
 -- a parenthesis, a brace or a bracket opens
 abbrev pub Opens : TokenKind → Type 0
@@ -134,20 +134,20 @@ Opens (kinds.Mark points.OpenBracket) = ⊤
 Opens _ = ⊥
 
 -- The parser stops after a keyword.
-pub record RefusesKeyword (end : ℕ) (tokens : List Token) (stop : Stop) : Type 0 where
+pub record RefusesKeyword (end : ℕ) (tokens : List Token) (stop : ParserStop) : Type 0 where
   pub is : stop ≡ at_hand reasons.Syntax end (drop 1 tokens)
-  pub keyword : Stands IsKeywordName tokens
+  pub keyword : IsTokenAt IsKeywordName tokens
 
 -- The parser stops after a label whose mark has no colon after it.
-pub record MissesColon (end : ℕ) (tokens : List Token) (stop : Stop) : Type 0 where
+pub record MissesColon (end : ℕ) (tokens : List Token) (stop : ParserStop) : Type 0 where
   pub is : stop ≡ at_hand reasons.Syntax end (drop 2 tokens)
   pub lacks : LacksColon tokens
 
 -- a definition as a label
 abbrev pub BeginsDefinition : List Token → Type 0
-BeginsDefinition ts = Stands IsDefinition ts × NextSign (kinds.Mark points.Colon) ts
+BeginsDefinition ts = IsTokenAt IsDefinition ts × NextSign (kinds.Mark points.Colon) ts
 
 -- declarations end here: at the top at the end of the text, else at a brace
 abbrev pub EndsHere : Bool → List Token → Type 0
 EndsHere true ts = ts ≡ []
-EndsHere false ts = StandsSign (kinds.Mark points.CloseBrace) ts
+EndsHere false ts = IsSignAt (kinds.Mark points.CloseBrace) ts

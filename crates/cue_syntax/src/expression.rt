@@ -1,28 +1,28 @@
 ghost use Rattle.std.specs.Prelude.{◌≡◌, ◌+◌, ◌⊎◌, ◌↔◌, ◌∷◌, [], IfOk, IfErr, IsTrue};
 ghost use Rattle.std.specs.Prelude.{Bool, false, true};
-ghost use Rattle.cue_syntax.specs.Syntax.{expression, rest_tree, branch_tree, entry_tree};
-ghost use Rattle.cue_syntax.specs.Syntax.{elements, entries};
+ghost use Rattle.cue_syntax.specs.Syntax.{expression, rest_of_tree, branch_tree, entry_tree};
+ghost use Rattle.cue_syntax.specs.Syntax.{elements_of_list, entries};
 ghost use Rattle.cue_syntax.specs.Grammar.{IsExpression, IsUnary, IsConjunct, IsNested, AreNested};
-ghost use Rattle.cue_syntax.specs.Grammar.{IsTermOf, IsEntry, AreElements, AreEntries};
+ghost use Rattle.cue_syntax.specs.Grammar.{IsTermOf, IsEntry, AreElementTokens, AreEntries};
 ghost use Rattle.cue_syntax.specs.Inner.Grammar.{IsRestOf};
 ghost use Rattle.cue_syntax.specs.Grammar.{AreBraced};
-ghost use Rattle.cue_syntax.specs.Viability.{StandsSign, IsCallOfClose, BeginsLabel};
+ghost use Rattle.cue_syntax.specs.Viability.{IsSignAt, IsCallOfClose, BeginsLabel};
 ghost use Rattle.cue_syntax.specs.Viability.{BeginsDefinition, EndsHere};
 ghost use Rattle.cue_syntax.specs.Inner.Viability.{behind_begun};
 ghost use Rattle.cue_syntax.specs.Recogniser as goals;
 ghost use Rattle.cue_syntax.specs.Recogniser.{row_goal, levels_of};
 ghost use Rattle.cue_syntax.specs.Parsed.{IsFurther, IsOnward, ReadsExpression};
-ghost use Rattle.cue_syntax.specs.Parsed.{MovesBetween, Refuses};
+ghost use Rattle.cue_syntax.specs.Parsed.{MovesBetween, ParserRefuses};
 ghost use Rattle.std.specs.Prelude.{MatchResult};
-ghost use Rattle.cue_syntax.specs.Begun.{BeginsEntry};
-ghost use Rattle.cue_syntax.specs.Stops.{IsMemory, at_hand};
+ghost use Rattle.cue_syntax.specs.Begun.{MayBeginEntry};
+ghost use Rattle.cue_syntax.specs.Stops.{IsMemoryParserStop, at_hand};
 
-use crate::cursor::{Cursor, Operand, Parsed};
+use crate::cursor::{Operand, Parsed, TokenCursor};
 use crate::form;
 use crate::label::{begins_label, label, labels};
-use crate::literal::{literal, lone};
-use crate::memory::{boxed, fitted, push};
-use crate::stop::{Stop, Why};
+use crate::literal::{literal, single_literal};
+use crate::memory::{boxed, drop_spare_room, push};
+use crate::stop::{ParserStop, Why};
 use crate::tree::{Declaration, Expr, Rest, Term};
 use cue_lex::{Punctuation, TokenKind};
 use std::alloc::Global;
@@ -30,21 +30,21 @@ use std::alloc::Global;
 /// Declarations or elements with commas between them, and whether a comma stands after the last
 /// one.
 #[derive(Drop)]
-pub struct Row<T> {
+pub struct CommaList<T> {
     pub items: Vec<T>,
     pub comma: bool,
 }
 
 /// An expression: a conjunction, or two or more terms joined by `|`.
 #[cycle(parser)]
-pub fn expression<'a>(alloc: Global, cursor: Cursor<'a>, room: usize) -> Parsed<'a, Expr<'a>>
+pub fn expression<'a>(alloc: Global, cursor: TokenCursor<'a>, room: usize) -> Parsed<'a, Expr<'a>>
     ensures spelled { IfOk result (ReadsExpression room cursor.entry) }
     ensures further { IfOk result (λ r. IsFurther cursor.entry r.1) }
     ensures moves { IfOk result (λ r.
         MovesBetween room (goals.expression ∷ []) [] cursor.entry r.1) }
-    ensures refused { IfErr result (Refuses room (goals.expression ∷ []) cursor.entry) }
+    ensures refused { IfErr result (ParserRefuses room (goals.expression ∷ []) cursor.entry) }
 {
-    match lone(cursor) {
+    match single_literal(cursor) {
         Some(read) => Ok(read),
         None => compound(alloc, cursor, room),
     }
@@ -52,14 +52,14 @@ pub fn expression<'a>(alloc: Global, cursor: Cursor<'a>, room: usize) -> Parsed<
 
 /// An expression that is no literal alone.
 #[cycle(parser)]
-fn compound<'a>(alloc: Global, cursor: Cursor<'a>, room: usize) -> Parsed<'a, Expr<'a>>
+fn compound<'a>(alloc: Global, cursor: TokenCursor<'a>, room: usize) -> Parsed<'a, Expr<'a>>
     ensures spelled { IfOk result (ReadsExpression room cursor.entry) }
     ensures further { IfOk result (λ r. IsFurther cursor.entry r.1) }
     ensures moves { IfOk result (λ r.
         MovesBetween room (goals.expression ∷ []) [] cursor.entry r.1) }
-    ensures refused { IfErr result (Refuses room (goals.expression ∷ []) cursor.entry) }
+    ensures refused { IfErr result (ParserRefuses room (goals.expression ∷ []) cursor.entry) }
 {
-    if cursor.stands(Punctuation::Star) {
+    if cursor.is_at(Punctuation::Star) {
         let (marked, behind) = term(alloc, cursor, room)?;
         return disjunction(alloc, cursor, marked, behind, room);
     }
@@ -67,19 +67,19 @@ fn compound<'a>(alloc: Global, cursor: Cursor<'a>, room: usize) -> Parsed<'a, Ex
     if rest.ends_operand() {
         return Ok((first, rest));
     }
-    joined(alloc, cursor, first, rest, room)
+    after_operand(alloc, cursor, first, rest, room)
 }
 
 /// An expression without a mark, of which the first operand or bound is read.
 #[cycle(parser)]
-fn joined<'a>(
+fn after_operand<'a>(
     alloc: Global,
-    cursor: Cursor<'a>,
+    cursor: TokenCursor<'a>,
     first: Expr<'a>,
-    rest: Cursor<'a>,
+    rest: TokenCursor<'a>,
     room: usize,
 ) -> Parsed<'a, Expr<'a>>
-    requires unmarked { ¬ StandsSign (TokenKind.Mark Punctuation.Star) cursor.rest.now }
+    requires unmarked { ¬ IsSignAt (TokenKind.Mark Punctuation.Star) cursor.rest.now }
     requires spelled { IsExpression room cursor.rest.now (expression first) rest.rest.now }
     requires further { IsFurther cursor rest }
     requires moves { MovesBetween room (goals.unary ∷ []) [] cursor rest }
@@ -88,7 +88,7 @@ fn joined<'a>(
     ensures further { IfOk result (λ r. IsFurther cursor.entry r.1) }
     ensures moves { IfOk result (λ r.
         MovesBetween room (goals.expression ∷ []) [] cursor.entry r.1) }
-    ensures refused { IfErr result (Refuses room (goals.expression ∷ []) cursor.entry) }
+    ensures refused { IfErr result (ParserRefuses room (goals.expression ∷ []) cursor.entry) }
 {
     let from = cursor.place();
     let (value, rest) = parts(alloc, cursor, first, rest, room)?;
@@ -104,21 +104,21 @@ fn joined<'a>(
 #[cycle(parser)]
 fn disjunction<'a>(
     alloc: Global,
-    cursor: Cursor<'a>,
+    cursor: TokenCursor<'a>,
     first: Term<'a>,
-    rest: Cursor<'a>,
+    rest: TokenCursor<'a>,
     room: usize,
 ) -> Parsed<'a, Expr<'a>>
     requires spelled { IsTermOf room cursor.rest.now (branch_tree first) rest.rest.now }
     requires further { IsFurther cursor rest }
     requires moves { MovesBetween room (goals.term ∷ []) [] cursor rest }
     requires marked { IsTrue first.marked
-        ↔ StandsSign (TokenKind.Mark Punctuation.Star) cursor.rest.now }
+        ↔ IsSignAt (TokenKind.Mark Punctuation.Star) cursor.rest.now }
     ensures spelled { IfOk result (ReadsExpression room cursor.entry) }
     ensures further { IfOk result (λ r. IsFurther cursor.entry r.1) }
     ensures moves { IfOk result (λ r.
         MovesBetween room (goals.expression ∷ []) [] cursor.entry r.1) }
-    ensures refused { IfErr result (Refuses room (goals.expression ∷ []) cursor.entry) }
+    ensures refused { IfErr result (ParserRefuses room (goals.expression ∷ []) cursor.entry) }
 {
     let Some(mut after) = rest.skip(Punctuation::Bar) else {
         if first.marked {
@@ -140,14 +140,14 @@ fn disjunction<'a>(
 
 /// A term of a disjunction.
 #[cycle(parser)]
-fn term<'a>(alloc: Global, cursor: Cursor<'a>, room: usize) -> Parsed<'a, Term<'a>>
+fn term<'a>(alloc: Global, cursor: TokenCursor<'a>, room: usize) -> Parsed<'a, Term<'a>>
     ensures further { IfOk result (λ r. IsFurther cursor.entry r.1) }
     ensures spelled { IfOk result (λ r. IsTermOf room cursor.entry.rest.now (branch_tree r.0)
         r.1.rest.now) }
     ensures moves { IfOk result (λ r. MovesBetween room (goals.term ∷ []) [] cursor.entry r.1) }
-    ensures refused { IfErr result (Refuses room (goals.term ∷ []) cursor.entry) }
+    ensures refused { IfErr result (ParserRefuses room (goals.term ∷ []) cursor.entry) }
     ensures marked { IfOk result (λ r. IsTrue r.0.marked
-        ↔ StandsSign (TokenKind.Mark Punctuation.Star) cursor.entry.rest.now) }
+        ↔ IsSignAt (TokenKind.Mark Punctuation.Star) cursor.entry.rest.now) }
 {
     match cursor.skip(Punctuation::Star) {
         Some(after) => {
@@ -179,13 +179,13 @@ fn term<'a>(alloc: Global, cursor: Cursor<'a>, room: usize) -> Parsed<'a, Term<'
 
 /// One part, or two or more parts joined by `&`.
 #[cycle(parser)]
-fn conjunction<'a>(alloc: Global, cursor: Cursor<'a>, room: usize) -> Parsed<'a, Expr<'a>>
+fn conjunction<'a>(alloc: Global, cursor: TokenCursor<'a>, room: usize) -> Parsed<'a, Expr<'a>>
     ensures spelled { IfOk result (ReadsExpression room cursor.entry) }
     ensures further { IfOk result (λ r. IsFurther cursor.entry r.1) }
     ensures moves { IfOk result (λ r.
         MovesBetween room (goals.unary ∷ goals.more_parts ∷ []) [] cursor.entry r.1) }
     ensures conjunct { IfOk result (λ r. IsConjunct (expression r.0)) }
-    ensures refused { IfErr result (Refuses room (goals.unary ∷ goals.more_parts ∷ [])
+    ensures refused { IfErr result (ParserRefuses room (goals.unary ∷ goals.more_parts ∷ [])
         cursor.entry) }
 {
     let (first, rest) = unary(alloc, cursor, room)?;
@@ -196,9 +196,9 @@ fn conjunction<'a>(alloc: Global, cursor: Cursor<'a>, room: usize) -> Parsed<'a,
 #[cycle(parser)]
 fn parts<'a>(
     alloc: Global,
-    cursor: Cursor<'a>,
+    cursor: TokenCursor<'a>,
     first: Expr<'a>,
-    rest: Cursor<'a>,
+    rest: TokenCursor<'a>,
     room: usize,
 ) -> Parsed<'a, Expr<'a>>
     requires spelled { IsExpression room cursor.rest.now (expression first) rest.rest.now }
@@ -210,7 +210,7 @@ fn parts<'a>(
     ensures moves { IfOk result (λ r.
         MovesBetween room (goals.unary ∷ goals.more_parts ∷ []) [] cursor.entry r.1) }
     ensures conjunct { IfOk result (λ r. IsConjunct (expression r.0)) }
-    ensures refused { IfErr result (Refuses room (goals.unary ∷ goals.more_parts ∷ [])
+    ensures refused { IfErr result (ParserRefuses room (goals.unary ∷ goals.more_parts ∷ [])
         cursor.entry) }
 {
     let Some(mut after) = rest.skip(Punctuation::Ampersand) else {
@@ -230,12 +230,12 @@ fn parts<'a>(
 
 /// An operand or a bound.
 #[cycle(parser)]
-fn unary<'a>(alloc: Global, cursor: Cursor<'a>, room: usize) -> Parsed<'a, Expr<'a>>
+fn unary<'a>(alloc: Global, cursor: TokenCursor<'a>, room: usize) -> Parsed<'a, Expr<'a>>
     ensures spelled { IfOk result (ReadsExpression room cursor.entry) }
     ensures further { IfOk result (λ r. IsFurther cursor.entry r.1) }
     ensures moves { IfOk result (λ r. MovesBetween room (goals.unary ∷ []) [] cursor.entry r.1) }
     ensures unary { IfOk result (λ r. IsUnary (expression r.0)) }
-    ensures refused { IfErr result (Refuses room (goals.unary ∷ []) cursor.entry) }
+    ensures refused { IfErr result (ParserRefuses room (goals.unary ∷ []) cursor.entry) }
 {
     match cursor.operand() {
         Operand::Parenthesis => parenthesis(alloc, cursor, room),
@@ -248,13 +248,13 @@ fn unary<'a>(alloc: Global, cursor: Cursor<'a>, room: usize) -> Parsed<'a, Expr<
 
 /// An expression in parentheses.
 #[cycle(parser)]
-fn parenthesis<'a>(alloc: Global, cursor: Cursor<'a>, room: usize) -> Parsed<'a, Expr<'a>>
-    requires { StandsSign (TokenKind.Mark Punctuation.OpenParenthesis) cursor.rest.now }
+fn parenthesis<'a>(alloc: Global, cursor: TokenCursor<'a>, room: usize) -> Parsed<'a, Expr<'a>>
+    requires { IsSignAt (TokenKind.Mark Punctuation.OpenParenthesis) cursor.rest.now }
     ensures spelled { IfOk result (ReadsExpression room cursor.entry) }
     ensures further { IfOk result (λ r. IsFurther cursor.entry r.1) }
     ensures moves { IfOk result (λ r. MovesBetween room (goals.unary ∷ []) [] cursor.entry r.1) }
     ensures unary { IfOk result (λ r. IsUnary (expression r.0)) }
-    ensures refused { IfErr result (Refuses room (goals.unary ∷ []) cursor.entry) }
+    ensures refused { IfErr result (ParserRefuses room (goals.unary ∷ []) cursor.entry) }
 {
     let inside = cursor.open_level(room)?;
     let open = cursor.expect(Punctuation::OpenParenthesis)?;
@@ -267,20 +267,20 @@ fn parenthesis<'a>(alloc: Global, cursor: Cursor<'a>, room: usize) -> Parsed<'a,
 
 /// A struct literal.
 #[cycle(parser)]
-fn structure<'a>(alloc: Global, cursor: Cursor<'a>, room: usize) -> Parsed<'a, Expr<'a>>
-    requires { StandsSign (TokenKind.Mark Punctuation.OpenBrace) cursor.rest.now }
+fn structure<'a>(alloc: Global, cursor: TokenCursor<'a>, room: usize) -> Parsed<'a, Expr<'a>>
+    requires { IsSignAt (TokenKind.Mark Punctuation.OpenBrace) cursor.rest.now }
     ensures spelled { IfOk result (ReadsExpression room cursor.entry) }
     ensures further { IfOk result (λ r. IsFurther cursor.entry r.1) }
     ensures moves { IfOk result (λ r. MovesBetween room (goals.unary ∷ []) [] cursor.entry r.1) }
     ensures unary { IfOk result (λ r. IsUnary (expression r.0)) }
-    ensures refused { IfErr result (Refuses room (goals.unary ∷ []) cursor.entry) }
+    ensures refused { IfErr result (ParserRefuses room (goals.unary ∷ []) cursor.entry) }
 {
     let inside = cursor.open_level(room)?;
     let open = cursor.expect(Punctuation::OpenBrace)?;
     let (row, rest) = braces(alloc, open, inside)?;
     Ok((
         Expr::Struct {
-            declarations: fitted(row.items),
+            declarations: drop_spare_room(row.items),
             comma: row.comma,
         },
         rest,
@@ -289,13 +289,13 @@ fn structure<'a>(alloc: Global, cursor: Cursor<'a>, room: usize) -> Parsed<'a, E
 
 /// `close` and a struct literal in parentheses.
 #[cycle(parser)]
-fn close<'a>(alloc: Global, cursor: Cursor<'a>, room: usize) -> Parsed<'a, Expr<'a>>
+fn close<'a>(alloc: Global, cursor: TokenCursor<'a>, room: usize) -> Parsed<'a, Expr<'a>>
     requires { IsCallOfClose cursor.rest.now }
     ensures spelled { IfOk result (ReadsExpression room cursor.entry) }
     ensures further { IfOk result (λ r. IsFurther cursor.entry r.1) }
     ensures moves { IfOk result (λ r. MovesBetween room (goals.unary ∷ []) [] cursor.entry r.1) }
     ensures unary { IfOk result (λ r. IsUnary (expression r.0)) }
-    ensures refused { IfErr result (Refuses room (goals.unary ∷ []) cursor.entry) }
+    ensures refused { IfErr result (ParserRefuses room (goals.unary ∷ []) cursor.entry) }
 {
     let (from, after) = cursor.expect_close()?;
     let inside = after.open_level(room)?;
@@ -308,7 +308,7 @@ fn close<'a>(alloc: Global, cursor: Cursor<'a>, room: usize) -> Parsed<'a, Expr<
     Ok((
         Expr::Close {
             from,
-            declarations: fitted(row.items),
+            declarations: drop_spare_room(row.items),
             inner_comma: row.comma,
             comma,
         },
@@ -318,20 +318,20 @@ fn close<'a>(alloc: Global, cursor: Cursor<'a>, room: usize) -> Parsed<'a, Expr<
 
 /// A list literal.
 #[cycle(parser)]
-fn list<'a>(alloc: Global, cursor: Cursor<'a>, room: usize) -> Parsed<'a, Expr<'a>>
-    requires { StandsSign (TokenKind.Mark Punctuation.OpenBracket) cursor.rest.now }
+fn list<'a>(alloc: Global, cursor: TokenCursor<'a>, room: usize) -> Parsed<'a, Expr<'a>>
+    requires { IsSignAt (TokenKind.Mark Punctuation.OpenBracket) cursor.rest.now }
     ensures spelled { IfOk result (ReadsExpression room cursor.entry) }
     ensures further { IfOk result (λ r. IsFurther cursor.entry r.1) }
     ensures moves { IfOk result (λ r. MovesBetween room (goals.unary ∷ []) [] cursor.entry r.1) }
     ensures unary { IfOk result (λ r. IsUnary (expression r.0)) }
-    ensures refused { IfErr result (Refuses room (goals.unary ∷ []) cursor.entry) }
+    ensures refused { IfErr result (ParserRefuses room (goals.unary ∷ []) cursor.entry) }
 {
     let inside = cursor.open_level(room)?;
     let open = cursor.expect(Punctuation::OpenBracket)?;
     let (row, last) = elements(alloc, open, inside)?;
     if row.comma || row.items.is_empty() {
         if let Some(after) = last.skip(Punctuation::Ellipsis) {
-            let (further, after) = further(alloc, after, inside)?;
+            let (further, after) = list_rest(alloc, after, inside)?;
             let (comma, after) = after.trailing_comma();
             let rest = after.expect(Punctuation::CloseBracket)?;
             return Ok((
@@ -357,15 +357,15 @@ fn list<'a>(alloc: Global, cursor: Cursor<'a>, room: usize) -> Parsed<'a, Expr<'
 
 /// What the `...` of a list says of further elements: the expression after it, if one follows.
 #[cycle(parser)]
-fn further<'a>(alloc: Global, cursor: Cursor<'a>, room: usize) -> Parsed<'a, Rest<'a>>
+fn list_rest<'a>(alloc: Global, cursor: TokenCursor<'a>, room: usize) -> Parsed<'a, Rest<'a>>
     ensures onward { IfOk result (λ r. IsOnward cursor.entry r.1) }
     ensures spelled { IfOk result (λ r.
-        IsRestOf room cursor.entry.rest.now (rest_tree r.0) r.1.rest.now) }
+        IsRestOf room cursor.entry.rest.now (rest_of_tree r.0) r.1.rest.now) }
     ensures moves { IfOk result (λ r.
         MovesBetween (1 + room) (goals.dots ∷ []) (goals.bracket ∷ []) cursor.entry r.1) }
-    ensures refused { IfErr result (Refuses (1 + room) (goals.dots ∷ []) cursor.entry) }
+    ensures refused { IfErr result (ParserRefuses (1 + room) (goals.dots ∷ []) cursor.entry) }
 {
-    if cursor.stands(Punctuation::Comma) || cursor.stands(Punctuation::CloseBracket) {
+    if cursor.is_at(Punctuation::Comma) || cursor.is_at(Punctuation::CloseBracket) {
         return Ok((Rest::GoesOn, cursor));
     }
     let (each, rest) = expression(alloc, cursor, room)?;
@@ -375,45 +375,51 @@ fn further<'a>(alloc: Global, cursor: Cursor<'a>, room: usize) -> Parsed<'a, Res
 
 /// The elements of a list, up to its `...` or its end.
 #[cycle(parser)]
-fn elements<'a>(alloc: Global, cursor: Cursor<'a>, room: usize) -> Parsed<'a, Row<Expr<'a>>>
+fn elements<'a>(
+    alloc: Global,
+    cursor: TokenCursor<'a>,
+    room: usize,
+) -> Parsed<'a, CommaList<Expr<'a>>>
     ensures onward { IfOk result (λ r. IsOnward cursor.entry r.1) }
     ensures spelled { IfOk result (λ r.
-        AreElements room cursor.entry.rest.now (elements r.0.items.items) r.0.comma r.1.rest.now) }
+        AreElementTokens room cursor.entry.rest.now (elements_of_list r.0.items.items) r.0.comma r.1.rest.now) }
     ensures moves { IfOk result (λ r. MovesBetween (1 + room) (goals.elements ∷ [])
         (row_goal goals.elements goals.more_elements r.0.comma r.0.items.items ∷ [])
         cursor.entry r.1) }
     ensures last { IfOk result (λ r. r.0.comma ≡ false
-        → ¬ StandsSign (TokenKind.Mark Punctuation.Comma) r.1.rest.now) }
+        → ¬ IsSignAt (TokenKind.Mark Punctuation.Comma) r.1.rest.now) }
     ensures open { IfOk result (λ r. (r.0.comma ≡ true) ⊎ (r.0.items.items ≡ []) →
-        StandsSign (TokenKind.Mark Punctuation.CloseBracket) r.1.rest.now
-        ⊎ StandsSign (TokenKind.Mark Punctuation.Ellipsis) r.1.rest.now) }
-    ensures refused { IfErr result (Refuses (1 + room) (goals.elements ∷ []) cursor.entry) }
+        IsSignAt (TokenKind.Mark Punctuation.CloseBracket) r.1.rest.now
+        ⊎ IsSignAt (TokenKind.Mark Punctuation.Ellipsis) r.1.rest.now) }
+    ensures refused { IfErr result (ParserRefuses (1 + room) (goals.elements ∷ []) cursor.entry) }
 {
     let mut items = Vec::new(alloc);
     let mut comma = false;
     let mut rest = cursor;
-    'elements: while !rest.stands(Punctuation::CloseBracket)
-        && !rest.stands(Punctuation::Ellipsis)
-    {
+    'elements: while !rest.is_at(Punctuation::CloseBracket) && !rest.is_at(Punctuation::Ellipsis) {
         let (element, behind) = expression(alloc, rest, room)?;
         push(&mut items, element)?;
         (comma, rest) = behind.trailing_comma();
         if !comma {
-            return Ok((Row { items, comma }, rest));
+            return Ok((CommaList { items, comma }, rest));
         }
     }
-    Ok((Row { items, comma }, rest))
+    Ok((CommaList { items, comma }, rest))
 }
 
 /// Declarations and the brace that closes them.
 #[cycle(parser)]
-fn braces<'a>(alloc: Global, cursor: Cursor<'a>, room: usize) -> Parsed<'a, Row<Declaration<'a>>>
+fn braces<'a>(
+    alloc: Global,
+    cursor: TokenCursor<'a>,
+    room: usize,
+) -> Parsed<'a, CommaList<Declaration<'a>>>
     ensures onward { IfOk result (λ r. IsOnward cursor.entry r.1) }
     ensures spelled { IfOk result (λ r.
         AreBraced room cursor.entry.rest.now (entries r.0.items.items) r.0.comma r.1.rest.now) }
     ensures moves { IfOk result (λ r.
         MovesBetween (1 + room) (goals.entries false ∷ []) [] cursor.entry r.1) }
-    ensures refused { IfErr result (Refuses (1 + room) (goals.entries false ∷ []) cursor.entry) }
+    ensures refused { IfErr result (ParserRefuses (1 + room) (goals.entries false ∷ []) cursor.entry) }
 {
     let (row, last) = declarations(alloc, cursor, false, room)?;
     let rest = last.expect(Punctuation::CloseBrace)?;
@@ -424,10 +430,10 @@ fn braces<'a>(alloc: Global, cursor: Cursor<'a>, room: usize) -> Parsed<'a, Row<
 #[cycle(parser)]
 pub fn declarations<'a>(
     alloc: Global,
-    cursor: Cursor<'a>,
+    cursor: TokenCursor<'a>,
     top: bool,
     room: usize,
-) -> Parsed<'a, Row<Declaration<'a>>>
+) -> Parsed<'a, CommaList<Declaration<'a>>>
     ensures onward { IfOk result (λ r. IsOnward cursor.entry r.1) }
     ensures spelled { IfOk result (λ r.
         AreEntries room cursor.entry.rest.now (entries r.0.items.items) r.0.comma r.1.rest.now) }
@@ -437,12 +443,12 @@ pub fn declarations<'a>(
         (row_goal (goals.entries top) (goals.more_entries top) r.0.comma r.0.items.items ∷ [])
         cursor.entry r.1) }
     ensures last { IfOk result (λ r. r.0.comma ≡ false
-        → ¬ StandsSign (TokenKind.Mark Punctuation.Comma) r.1.rest.now) }
+        → ¬ IsSignAt (TokenKind.Mark Punctuation.Comma) r.1.rest.now) }
     ensures open { IfOk result (λ r. (r.0.comma ≡ true) ⊎ (r.0.items.items ≡ [])
         → EndsHere top r.1.rest.now) }
-    ensures refused { IfErr result (Refuses (levels_of (goals.entries top) + room)
+    ensures refused { IfErr result (ParserRefuses (levels_of (goals.entries top) + room)
         (goals.entries top ∷ []) cursor.entry) }
-    ensures begins { IfErr result (λ r. IsMemory r → BeginsEntry cursor.entry.rest.now) }
+    ensures begins { IfErr result (λ r. IsMemoryParserStop r → MayBeginEntry cursor.entry.rest.now) }
 {
     let mut items = Vec::new(alloc);
     let mut comma = false;
@@ -452,19 +458,19 @@ pub fn declarations<'a>(
         push(&mut items, item)?;
         (comma, rest) = behind.trailing_comma();
         if !comma {
-            return Ok((Row { items, comma }, rest));
+            return Ok((CommaList { items, comma }, rest));
         }
     }
-    Ok((Row { items, comma }, rest))
+    Ok((CommaList { items, comma }, rest))
 }
 
-fn ends_declarations(cursor: Cursor, top: bool) -> bool
+fn ends_declarations(cursor: TokenCursor, top: bool) -> bool
     ensures { IsTrue result ↔ EndsHere top cursor.entry.rest.now }
 {
     if top {
         cursor.is_at_end()
     } else {
-        cursor.stands(Punctuation::CloseBrace)
+        cursor.is_at(Punctuation::CloseBrace)
     }
 }
 
@@ -472,7 +478,7 @@ fn ends_declarations(cursor: Cursor, top: bool) -> bool
 #[cycle(parser)]
 fn declaration<'a>(
     alloc: Global,
-    cursor: Cursor<'a>,
+    cursor: TokenCursor<'a>,
     top: bool,
     room: usize,
 ) -> Parsed<'a, Declaration<'a>>
@@ -483,10 +489,10 @@ fn declaration<'a>(
     ensures nested { IfOk result (λ r. top ≡ false → IsNested (entry_tree r.0)) }
     ensures moves { IfOk result (λ r. MovesBetween (levels_of (goals.entries top) + room)
         (goals.entries top ∷ []) (goals.more_entries top ∷ []) cursor.entry r.1) }
-    ensures refused { IfErr result (Refuses (levels_of (goals.entries top) + room)
+    ensures refused { IfErr result (ParserRefuses (levels_of (goals.entries top) + room)
         (goals.entries top ∷ []) cursor.entry) }
-    ensures begins { MatchResult result (λ r. BeginsEntry cursor.entry.rest.now)
-        (λ r. IsMemory r → BeginsEntry cursor.entry.rest.now) }
+    ensures begins { MatchResult result (λ r. MayBeginEntry cursor.entry.rest.now)
+        (λ r. IsMemoryParserStop r → MayBeginEntry cursor.entry.rest.now) }
 {
     if let Some(after) = cursor.skip(Punctuation::Ellipsis) {
         return Ok((Declaration::Ellipsis, after));
@@ -502,7 +508,7 @@ fn declaration<'a>(
 
 /// Where the tokens leave the grammar if no declaration stands at hand: at the first token, or
 /// after it where a declaration can begin with it.
-fn no_declaration(cursor: Cursor, top: bool) -> Stop
+fn no_declaration(cursor: TokenCursor, top: bool) -> ParserStop
     ensures { result ≡ at_hand Why.Syntax cursor.entry.end (behind_begun top cursor.entry.rest.now) }
 {
     match cursor.next() {
@@ -516,7 +522,7 @@ fn no_declaration(cursor: Cursor, top: bool) -> Stop
 }
 
 /// Whether a definition stands at hand.
-fn begins_definition(cursor: Cursor, top: bool) -> bool
+fn begins_definition(cursor: TokenCursor, top: bool) -> bool
     ensures top { IsTrue result → top ≡ true }
     ensures begins { IsTrue result → BeginsDefinition cursor.entry.rest.now }
     ensures no { result ≡ false → top ≡ true → ¬ BeginsDefinition cursor.entry.rest.now }
@@ -526,7 +532,7 @@ fn begins_definition(cursor: Cursor, top: bool) -> bool
 
 /// A field with its chain of labels.
 #[cycle(parser)]
-fn field<'a>(alloc: Global, cursor: Cursor<'a>, room: usize) -> Parsed<'a, Declaration<'a>>
+fn field<'a>(alloc: Global, cursor: TokenCursor<'a>, room: usize) -> Parsed<'a, Declaration<'a>>
     requires { BeginsLabel cursor.rest.now }
     ensures further { IfOk result (λ r. IsFurther cursor.entry r.1) }
     ensures spelled { IfOk result (λ r. IsEntry room cursor.entry.rest.now (entry_tree r.0)
@@ -536,7 +542,7 @@ fn field<'a>(alloc: Global, cursor: Cursor<'a>, room: usize) -> Parsed<'a, Decla
         MovesBetween (levels_of (goals.entries top) + room) (goals.entries top ∷ [])
         (goals.more_entries top ∷ []) cursor.entry r.1) }
     ensures refused { IfErr result (λ r. (top : Bool) →
-        Refuses (levels_of (goals.entries top) + room) (goals.entries top ∷ []) cursor.entry r) }
+        ParserRefuses (levels_of (goals.entries top) + room) (goals.entries top ∷ []) cursor.entry r) }
 {
     let (label, after) = label(cursor)?;
     let chain = labels(alloc, after, room)?;
@@ -553,14 +559,18 @@ fn field<'a>(alloc: Global, cursor: Cursor<'a>, room: usize) -> Parsed<'a, Decla
 
 /// A definition with its chain of labels.
 #[cycle(parser)]
-fn definition<'a>(alloc: Global, cursor: Cursor<'a>, room: usize) -> Parsed<'a, Declaration<'a>>
+fn definition<'a>(
+    alloc: Global,
+    cursor: TokenCursor<'a>,
+    room: usize,
+) -> Parsed<'a, Declaration<'a>>
     requires { BeginsDefinition cursor.rest.now }
     ensures further { IfOk result (λ r. IsFurther cursor.entry r.1) }
     ensures spelled { IfOk result (λ r. IsEntry room cursor.entry.rest.now (entry_tree r.0)
         r.1.rest.now) }
     ensures moves { IfOk result (λ r. MovesBetween room (goals.entries true ∷ [])
         (goals.more_entries true ∷ []) cursor.entry r.1) }
-    ensures refused { IfErr result (Refuses room (goals.entries true ∷ []) cursor.entry) }
+    ensures refused { IfErr result (ParserRefuses room (goals.entries true ∷ []) cursor.entry) }
 {
     let Some((token, after)) = cursor.next() else {
         return Err(cursor.syntax());

@@ -1,50 +1,50 @@
 ghost use Rattle.std.specs.Prelude.{◌≡◌, ◌≤◌, MatchOption, IsTrue, ◌↔◌, length, take, drop, codes};
-ghost use Rattle.cue_syntax.specs.Viability.{Stands, StandsSign, NextSign, Next, IsMark, IsHidden};
-ghost use Rattle.cue_syntax.specs.Viability.{IsKeywordName, place_of};
+ghost use Rattle.cue_syntax.specs.Viability.{IsTokenAt, IsSignAt, NextSign, Next, IsMark, IsHidden};
+ghost use Rattle.cue_syntax.specs.Viability.{IsKeywordName, place_of_symbol};
 ghost use Rattle.cue_syntax.specs.Viability.{IsDefinition, IsCallable, BeginsClause, BeginsInteger};
-ghost use Rattle.cue_syntax.specs.Forms.{IsAt, IsOfDeclaration, IsText, SeesLabel};
+ghost use Rattle.cue_syntax.specs.Forms.{IsFormAt, IsOfDeclaration, IsTextToken, SeesLabel};
 ghost use Rattle.cue_syntax.specs.Inner.Forms.{HasNoForm};
 ghost use Rattle.cue_syntax.specs.Forms.{SeesDynamicLabel, NextMark};
-ghost use Rattle.cue_syntax.specs.Refusals.{Tells, TellsOf, IsNamedEarly, IsKindAfter};
-ghost use Rattle.cue_syntax.specs.Refusals.{StandsAfter, IsValueKeyword};
+ghost use Rattle.cue_syntax.specs.Refusals.{RefusalSays, RefusalSaysOf, IsNamedEarly, IsKindAfter};
+ghost use Rattle.cue_syntax.specs.Refusals.{FormIsAfter, IsValueKeyword};
 ghost use Rattle.cue_syntax.specs.Spots.{spot_of};
 
-use crate::cursor::Cursor;
+use crate::cursor::TokenCursor;
 use crate::literal::{is_clause, is_keyword};
-use crate::spot::{Spot, find_spot};
-use crate::stop::{Stop, Why};
+use crate::spot::{Position, find_spot};
+use crate::stop::{ParserStop, Why};
 use cue_lattice::{Form, Kind, Refusal};
 use cue_lex::{Punctuation, Token, TokenKind};
 
 /// What is said of the place at which the parser stopped. `end` is the length of the text in bytes.
-pub fn refusal<'t>(tokens: &'t [Token<'t>], end: usize, stop: Stop) -> Refusal
+pub fn refusal<'t>(tokens: &'t [Token<'t>], end: usize, stop: ParserStop) -> Refusal
     requires { stop.left ≤ length tokens.now }
-    ensures { Tells end tokens.now stop result }
+    ensures { RefusalSays end tokens.now stop result }
 {
-    let text = Cursor { rest: tokens, end };
+    let text = TokenCursor { rest: tokens, end };
     let read = tokens.len() - stop.left;
     match stop.why {
         Why::Memory(memory) => Refusal::from(memory),
         Why::Nesting => after(text, read).refuse(Kind::Nesting),
-        Why::Syntax => leaving(text, read),
+        Why::Syntax => refusal_after(text, read),
     }
 }
 
 /// What is said where the tokens leave the grammar after so many of them: of the last one that was
 /// read, if that is named early, or else of the symbol after it.
-fn leaving(text: Cursor, read: usize) -> Refusal
+fn refusal_after(text: TokenCursor, read: usize) -> Refusal
     requires { read ≤ length text.rest.now }
-    ensures { TellsOf text.entry.end text.entry.rest.now read result }
+    ensures { RefusalSaysOf text.entry.end text.entry.rest.now read result }
 {
     if read > 0 && is_named_early(text, read - 1) {
-        return named(text, read - 1);
+        return symbol_refusal(text, read - 1);
     }
-    named(text, read)
+    symbol_refusal(text, read)
 }
 
 /// Whether the token after so many is named though the grammar has it, where the next symbol leaves
 /// the grammar.
-fn is_named_early(text: Cursor, read: usize) -> bool
+fn is_named_early(text: TokenCursor, read: usize) -> bool
     requires { read ≤ length text.rest.now }
     ensures { IsTrue result ↔ IsNamedEarly read text.entry.rest.now }
 {
@@ -52,9 +52,9 @@ fn is_named_early(text: Cursor, read: usize) -> bool
 }
 
 /// What is said of the symbol after so many of the tokens.
-fn named(text: Cursor, read: usize) -> Refusal
+fn symbol_refusal(text: TokenCursor, read: usize) -> Refusal
     requires { read ≤ length text.rest.now }
-    ensures place { result.place ≡ place_of text.entry.end (drop read text.entry.rest.now) }
+    ensures place { result.place ≡ place_of_symbol text.entry.end (drop read text.entry.rest.now) }
     ensures kind { IsKindAfter read text.entry.rest.now result.kind }
 {
     let kind = match form_after(text, read) {
@@ -65,11 +65,11 @@ fn named(text: Cursor, read: usize) -> Refusal
 }
 
 /// The form that the profile leaves out and that stands after so many of the tokens, if one does.
-fn form_after(text: Cursor, read: usize) -> Option<Form>
+fn form_after(text: TokenCursor, read: usize) -> Option<Form>
     requires { read ≤ length text.rest.now }
     ensures { MatchOption result
-        ((form : Form) → ¬ StandsAfter read text.entry.rest.now form)
-        (λ form. StandsAfter read text.entry.rest.now form) }
+        ((form : Form) → ¬ FormIsAfter read text.entry.rest.now form)
+        (λ form. FormIsAfter read text.entry.rest.now form) }
 {
     if read == 0 && begins_package(text) {
         return None;
@@ -78,31 +78,31 @@ fn form_after(text: Cursor, read: usize) -> Option<Form>
 }
 
 /// Whether a keyword stands as a value after so many of the tokens.
-fn is_value_keyword(text: Cursor, read: usize) -> bool
+fn is_value_keyword(text: TokenCursor, read: usize) -> bool
     requires { read ≤ length text.rest.now }
     ensures { IsTrue result ↔ IsValueKeyword read text.entry.rest.now }
 {
     match spot_after(text, read) {
-        Spot::Value => stands_keyword(after(text, read)),
+        Position::Value => is_at_keyword(after(text, read)),
         _ => false,
     }
 }
 
 /// The tokens from the symbol after so many of them on.
-fn after<'a>(text: Cursor<'a>, read: usize) -> Cursor<'a>
+fn after<'a>(text: TokenCursor<'a>, read: usize) -> TokenCursor<'a>
     requires { read ≤ length text.rest.now }
     ensures rest { result.rest.now ≡ drop read text.entry.rest.now }
     ensures end { result.end ≡ text.entry.end }
 {
     let (_, rest) = text.rest.split_at(read);
-    Cursor {
+    TokenCursor {
         rest,
         end: text.end,
     }
 }
 
 /// The spot of the symbol after so many of the tokens.
-fn spot_after(text: Cursor, read: usize) -> Spot
+fn spot_after(text: TokenCursor, read: usize) -> Position
     requires { read ≤ length text.rest.now }
     ensures { result ≡ spot_of (take read text.entry.rest.now) }
 {
@@ -111,13 +111,13 @@ fn spot_after(text: Cursor, read: usize) -> Spot
 }
 
 /// Whether the name `package` stands at hand, and no mark after it.
-fn begins_package(cursor: Cursor) -> bool
-    ensures { IsTrue result ↔ StandsSign (TokenKind.Name (codes "package")) cursor.entry.rest.now
+fn begins_package(cursor: TokenCursor) -> bool
+    ensures { IsTrue result ↔ IsSignAt (TokenKind.Name (codes "package")) cursor.entry.rest.now
         × ¬ Next IsMark cursor.entry.rest.now }
 {
     match cursor.next() {
         Some((token, after)) => match &token.kind {
-            TokenKind::Name(name) => name.as_str() == "package" && !after.stands_mark(),
+            TokenKind::Name(name) => name.as_str() == "package" && !after.is_at_mark(),
             _ => false,
         },
         None => false,
@@ -125,8 +125,8 @@ fn begins_package(cursor: Cursor) -> bool
 }
 
 /// Whether a keyword stands at hand.
-fn stands_keyword(cursor: Cursor) -> bool
-    ensures { IsTrue result ↔ Stands IsKeywordName cursor.entry.rest.now }
+fn is_at_keyword(cursor: TokenCursor) -> bool
+    ensures { IsTrue result ↔ IsTokenAt IsKeywordName cursor.entry.rest.now }
 {
     match cursor.next() {
         Some((token, _)) => match &token.kind {
@@ -138,58 +138,58 @@ fn stands_keyword(cursor: Cursor) -> bool
 }
 
 /// The form that the profile leaves out and that stands at a spot, if one does.
-fn form(spot: Spot, cursor: Cursor) -> Option<Form>
+fn form(spot: Position, cursor: TokenCursor) -> Option<Form>
     ensures { MatchOption result (HasNoForm spot cursor.entry.rest.now) (λ form.
-        IsAt form spot cursor.entry.rest.now) }
+        IsFormAt form spot cursor.entry.rest.now) }
 {
     match spot {
-        Spot::Top => declaration_form(cursor, Spot::Top),
-        Spot::Inner => declaration_form(cursor, Spot::Inner),
-        Spot::Value => value_form(cursor),
-        Spot::Operand => {
+        Position::Top => declaration_form(cursor, Position::Top),
+        Position::Inner => declaration_form(cursor, Position::Inner),
+        Position::Value => value_form(cursor),
+        Position::Operand => {
             if begins_call(cursor) {
                 Some(Form::Call)
             } else {
                 None
             }
         }
-        Spot::Ellipsis => {
+        Position::Ellipsis => {
             if cursor.begins_expression() {
                 Some(Form::TypedEllipsis)
             } else {
                 None
             }
         }
-        Spot::Bound => {
-            if cursor.begins_expression() && !stands_integer(cursor) {
+        Position::Bound => {
+            if cursor.begins_expression() && !is_at_integer(cursor) {
                 Some(Form::Bound)
             } else {
                 None
             }
         }
-        Spot::NotEqual => {
-            if cursor.begins_expression() && !stands_integer(cursor) && !stands_text(cursor) {
+        Position::NotEqual => {
+            if cursor.begins_expression() && !is_at_integer(cursor) && !is_at_text(cursor) {
                 Some(Form::Bound)
             } else {
                 None
             }
         }
-        Spot::CloseArgument => {
-            if cursor.begins_expression() && !cursor.stands(Punctuation::OpenBrace) {
+        Position::CloseArgument => {
+            if cursor.begins_expression() && !cursor.is_at(Punctuation::OpenBrace) {
                 Some(Form::CloseArgument)
             } else {
                 None
             }
         }
-        Spot::CloseName | Spot::Other => None,
+        Position::CloseName | Position::Other => None,
     }
 }
 
 /// The form that stands where a declaration begins.
-fn declaration_form(cursor: Cursor, spot: Spot) -> Option<Form>
+fn declaration_form(cursor: TokenCursor, spot: Position) -> Option<Form>
     requires { IsOfDeclaration spot }
     ensures { MatchOption result (HasNoForm spot cursor.entry.rest.now) (λ form.
-        IsAt form spot cursor.entry.rest.now) }
+        IsFormAt form spot cursor.entry.rest.now) }
 {
     if begins_hidden_label(cursor) {
         return Some(Form::HiddenLabel);
@@ -199,7 +199,7 @@ fn declaration_form(cursor: Cursor, spot: Spot) -> Option<Form>
     }
     if begins_definition(cursor) {
         return match spot {
-            Spot::Inner => Some(Form::NestedDefinition),
+            Position::Inner => Some(Form::NestedDefinition),
             _ => None,
         };
     }
@@ -219,9 +219,9 @@ fn declaration_form(cursor: Cursor, spot: Spot) -> Option<Form>
 }
 
 /// The form that stands after the colon of a field or a definition.
-fn value_form(cursor: Cursor) -> Option<Form>
+fn value_form(cursor: TokenCursor) -> Option<Form>
     ensures { MatchOption result (HasNoForm Spot.Value cursor.entry.rest.now) (λ form.
-        IsAt form Spot.Value cursor.entry.rest.now) }
+        IsFormAt form Spot.Value cursor.entry.rest.now) }
 {
     if begins_hidden_label(cursor) {
         return Some(Form::HiddenLabel);
@@ -239,13 +239,13 @@ fn value_form(cursor: Cursor) -> Option<Form>
 }
 
 /// Whether a hidden name and a mark stand at hand.
-fn begins_hidden_label(cursor: Cursor) -> bool
-    ensures { IsTrue result ↔ Stands IsHidden cursor.entry.rest.now
+fn begins_hidden_label(cursor: TokenCursor) -> bool
+    ensures { IsTrue result ↔ IsTokenAt IsHidden cursor.entry.rest.now
         × Next IsMark cursor.entry.rest.now }
 {
     match cursor.next() {
         Some((token, after)) => match &token.kind {
-            TokenKind::Hidden(_) => after.stands_mark(),
+            TokenKind::Hidden(_) => after.is_at_mark(),
             _ => false,
         },
         None => false,
@@ -253,13 +253,13 @@ fn begins_hidden_label(cursor: Cursor) -> bool
 }
 
 /// Whether a definition and `?` or `!` stand at hand.
-fn begins_marked_definition(cursor: Cursor) -> bool
-    ensures { IsTrue result ↔ Stands IsDefinition cursor.entry.rest.now
+fn begins_marked_definition(cursor: TokenCursor) -> bool
+    ensures { IsTrue result ↔ IsTokenAt IsDefinition cursor.entry.rest.now
         × NextMark cursor.entry.rest.now }
 {
     match cursor.next() {
         Some((token, after)) => match &token.kind {
-            TokenKind::Definition(_) => { after.stands_mark() && !after.stands(Punctuation::Colon) }
+            TokenKind::Definition(_) => { after.is_at_mark() && !after.is_at(Punctuation::Colon) }
             _ => false,
         },
         None => false,
@@ -267,13 +267,13 @@ fn begins_marked_definition(cursor: Cursor) -> bool
 }
 
 /// Whether a definition and a colon stand at hand.
-pub fn begins_definition(cursor: Cursor) -> bool
-    ensures { IsTrue result ↔ Stands IsDefinition cursor.entry.rest.now
+pub fn begins_definition(cursor: TokenCursor) -> bool
+    ensures { IsTrue result ↔ IsTokenAt IsDefinition cursor.entry.rest.now
         × NextSign (TokenKind.Mark Punctuation.Colon) cursor.entry.rest.now }
 {
     match cursor.next() {
         Some((token, after)) => match &token.kind {
-            TokenKind::Definition(_) => after.stands(Punctuation::Colon),
+            TokenKind::Definition(_) => after.is_at(Punctuation::Colon),
             _ => false,
         },
         None => false,
@@ -281,7 +281,7 @@ pub fn begins_definition(cursor: Cursor) -> bool
 }
 
 /// Whether what can be a label, and a mark, stand at hand.
-fn begins_any_label(cursor: Cursor) -> bool
+fn begins_any_label(cursor: TokenCursor) -> bool
     ensures { IsTrue result ↔ SeesLabel cursor.entry.rest.now }
 {
     match cursor.next() {
@@ -289,7 +289,7 @@ fn begins_any_label(cursor: Cursor) -> bool
             TokenKind::Name(_)
             | TokenKind::Definition(_)
             | TokenKind::Hidden(_)
-            | TokenKind::Text(_) => after.stands_mark(),
+            | TokenKind::Text(_) => after.is_at_mark(),
             _ => false,
         },
         None => false,
@@ -297,8 +297,8 @@ fn begins_any_label(cursor: Cursor) -> bool
 }
 
 /// Whether a name that begins a clause stands at hand.
-fn begins_clause(cursor: Cursor) -> bool
-    ensures { IsTrue result ↔ Stands BeginsClause cursor.entry.rest.now }
+fn begins_clause(cursor: TokenCursor) -> bool
+    ensures { IsTrue result ↔ IsTokenAt BeginsClause cursor.entry.rest.now }
 {
     match cursor.next() {
         Some((token, _)) => match &token.kind {
@@ -310,23 +310,23 @@ fn begins_clause(cursor: Cursor) -> bool
 }
 
 /// Whether a label in brackets or parentheses begins at hand.
-fn begins_dynamic_label(cursor: Cursor) -> bool
+fn begins_dynamic_label(cursor: TokenCursor) -> bool
     ensures { IsTrue result ↔ SeesDynamicLabel cursor.entry.rest.now }
 {
-    cursor.stands(Punctuation::OpenBracket) || cursor.stands(Punctuation::OpenParenthesis)
+    cursor.is_at(Punctuation::OpenBracket) || cursor.is_at(Punctuation::OpenParenthesis)
 }
 
 /// Whether a call of anything but `close` begins at hand.
-fn begins_call(cursor: Cursor) -> bool
-    ensures { IsTrue result ↔ Stands IsCallable cursor.entry.rest.now
+fn begins_call(cursor: TokenCursor) -> bool
+    ensures { IsTrue result ↔ IsTokenAt IsCallable cursor.entry.rest.now
         × NextSign (TokenKind.Mark Punctuation.OpenParenthesis) cursor.entry.rest.now }
 {
     match cursor.next() {
         Some((token, after)) => match &token.kind {
             TokenKind::Name(name) => {
-                name.as_str() != "close" && after.stands(Punctuation::OpenParenthesis)
+                name.as_str() != "close" && after.is_at(Punctuation::OpenParenthesis)
             }
-            TokenKind::Hidden(_) => after.stands(Punctuation::OpenParenthesis),
+            TokenKind::Hidden(_) => after.is_at(Punctuation::OpenParenthesis),
             _ => false,
         },
         None => false,
@@ -334,8 +334,8 @@ fn begins_call(cursor: Cursor) -> bool
 }
 
 /// Whether an integer or its sign stands at hand.
-fn stands_integer(cursor: Cursor) -> bool
-    ensures { IsTrue result ↔ Stands BeginsInteger cursor.entry.rest.now }
+fn is_at_integer(cursor: TokenCursor) -> bool
+    ensures { IsTrue result ↔ IsTokenAt BeginsInteger cursor.entry.rest.now }
 {
     match cursor.next() {
         Some((token, _)) => match &token.kind {
@@ -347,8 +347,8 @@ fn stands_integer(cursor: Cursor) -> bool
 }
 
 /// Whether a string stands at hand.
-fn stands_text(cursor: Cursor) -> bool
-    ensures { IsTrue result ↔ Stands IsText cursor.entry.rest.now }
+fn is_at_text(cursor: TokenCursor) -> bool
+    ensures { IsTrue result ↔ IsTokenAt IsTextToken cursor.entry.rest.now }
 {
     match cursor.next() {
         Some((token, _)) => match &token.kind {

@@ -1,10 +1,10 @@
 ghost use Rattle.std.specs.Prelude.{◌≡◌, ◌∷◌, [], ◌↔◌, IfOk, IfErr, IfSome, IsTrue};
-ghost use Rattle.cue_syntax.specs.Spelling.{Reads, one, spell_signed};
+ghost use Rattle.cue_syntax.specs.Spelling.{SpellsTree, one, spell_signed};
 ghost use Rattle.cue_syntax.specs.Spelling.{identifier_kind, comparison_kind};
 ghost use Rattle.cue_syntax.specs.Grammar as Grammar;
 ghost use Rattle.cue_syntax.specs.Grammar.{IsInRange, IsOperand};
 ghost use Rattle.cue_syntax.specs.Grammar.{IsClause, IsKeyword};
-ghost use Rattle.cue_syntax.specs.Viability.{Stands, StandsSign, Opens, IsCallOfClose};
+ghost use Rattle.cue_syntax.specs.Viability.{IsTokenAt, IsSignAt, Opens, IsCallOfClose};
 ghost use Rattle.cue_syntax.specs.Viability.{BeginsInteger};
 ghost use Rattle.cue_syntax.specs.Inner.Viability.{IsIdentifier, IsComparison};
 ghost use Rattle.cue_syntax.specs.Operands.{EndsOperand};
@@ -12,13 +12,13 @@ ghost use Rattle.cue_syntax.specs.Inner.Operands.{IsBeginning, IsSign};
 ghost use Rattle.cue_syntax.specs.Recogniser.{unary, signed, magnitude};
 ghost use Rattle.cue_syntax.specs.Parsed.{IsFurther, ReadsLiteral, MovesBetween, RefusesAlways};
 
-use crate::cursor::{Cursor, Parsed};
+use crate::cursor::{Parsed, TokenCursor};
 use crate::tree::{Comparison, Expr, Identifier, Sign, Signed};
 use cue_lex::{Punctuation, TokenKind, Word};
 
 /// An expression that holds no other: a name, an integer, a string, `_|_` or a bound.
-pub fn literal<'a>(cursor: Cursor<'a>) -> Parsed<'a, Expr<'a>>
-    requires opens { ¬ Stands Opens cursor.rest.now }
+pub fn literal<'a>(cursor: TokenCursor<'a>) -> Parsed<'a, Expr<'a>>
+    requires opens { ¬ IsTokenAt Opens cursor.rest.now }
     requires call { ¬ IsCallOfClose cursor.rest.now }
     ensures spelled { IfOk result (ReadsLiteral cursor.entry) }
     ensures further { IfOk result (λ r. IsFurther cursor.entry r.1) }
@@ -45,7 +45,7 @@ pub fn literal<'a>(cursor: Cursor<'a>) -> Parsed<'a, Expr<'a>>
         TokenKind::Mark(mark) => match literal_of(*mark) {
             Beginning::Integer => integer(cursor),
             Beginning::Bound => bound(cursor),
-            Beginning::NotEqual => other(cursor),
+            Beginning::NotEqual => other_than(cursor),
             Beginning::Nothing => Err(cursor.syntax()),
         },
     }
@@ -53,12 +53,12 @@ pub fn literal<'a>(cursor: Cursor<'a>) -> Parsed<'a, Expr<'a>>
 
 /// A literal of one token, where what stands behind it ends the expression.
 #[inline(always)]
-pub fn lone<'a>(cursor: Cursor<'a>) -> Option<(Expr<'a>, Cursor<'a>)>
+pub fn single_literal<'a>(cursor: TokenCursor<'a>) -> Option<(Expr<'a>, TokenCursor<'a>)>
     ensures spelled { IfSome result (ReadsLiteral cursor.entry) }
     ensures further { IfSome result (λ r. IsFurther cursor.entry r.1) }
     ensures moves { IfSome result (λ r. MovesBetween 0 (unary ∷ []) [] cursor.entry r.1) }
     ensures unmarked { IfSome result (λ r.
-        ¬ StandsSign (TokenKind.Mark Punctuation.Star) cursor.entry.rest.now) }
+        ¬ IsSignAt (TokenKind.Mark Punctuation.Star) cursor.entry.rest.now) }
     ensures ends { IfSome result (λ r. EndsOperand r.1.rest.now) }
 {
     let (token, after) = cursor.next()?;
@@ -67,7 +67,7 @@ pub fn lone<'a>(cursor: Cursor<'a>) -> Option<(Expr<'a>, Cursor<'a>)>
     }
     match &token.kind {
         TokenKind::Integer(magnitude) => {
-            if *magnitude > greatest(Sign::Absent) {
+            if *magnitude > greatest_magnitude(Sign::Absent) {
                 return None;
             }
             let integer = Signed {
@@ -120,8 +120,8 @@ fn literal_of(mark: Punctuation) -> Beginning
 }
 
 /// An integer as an expression.
-fn integer<'a>(cursor: Cursor<'a>) -> Parsed<'a, Expr<'a>>
-    requires { Stands BeginsInteger cursor.rest.now }
+fn integer<'a>(cursor: TokenCursor<'a>) -> Parsed<'a, Expr<'a>>
+    requires { IsTokenAt BeginsInteger cursor.rest.now }
     ensures spelled { IfOk result (ReadsLiteral cursor.entry) }
     ensures further { IfOk result (λ r. IsFurther cursor.entry r.1) }
     ensures moves { IfOk result (λ r. MovesBetween 0 (unary ∷ []) [] cursor.entry r.1) }
@@ -132,11 +132,11 @@ fn integer<'a>(cursor: Cursor<'a>) -> Parsed<'a, Expr<'a>>
 }
 
 /// An identifier as an operand: no keyword, and no call.
-fn identifier<'a>(cursor: Cursor<'a>) -> Parsed<'a, Identifier<'a>>
-    requires is { Stands IsIdentifier cursor.rest.now }
+fn identifier<'a>(cursor: TokenCursor<'a>) -> Parsed<'a, Identifier<'a>>
+    requires is { IsTokenAt IsIdentifier cursor.rest.now }
     requires call { ¬ IsCallOfClose cursor.rest.now }
     ensures further { IfOk result (λ r. IsFurther cursor.entry r.1) }
-    ensures spelled { IfOk result (λ r. Reads cursor.entry.rest.now (one (identifier_kind r.0))
+    ensures spelled { IfOk result (λ r. SpellsTree cursor.entry.rest.now (one (identifier_kind r.0))
         r.1.rest.now) }
     ensures operand { IfOk result (λ r. IsOperand r.0) }
     ensures moves { IfOk result (λ r. MovesBetween 0 (unary ∷ []) [] cursor.entry r.1) }
@@ -150,13 +150,13 @@ fn identifier<'a>(cursor: Cursor<'a>) -> Parsed<'a, Identifier<'a>>
             if is_keyword(name) {
                 return Err(cursor.syntax());
             }
-            if after.stands(Punctuation::OpenParenthesis) {
+            if after.is_at(Punctuation::OpenParenthesis) {
                 return Err(after.syntax());
             }
             Ok((Identifier::Plain(name.share()), after))
         }
         TokenKind::Hidden(name) => {
-            if after.stands(Punctuation::OpenParenthesis) {
+            if after.is_at(Punctuation::OpenParenthesis) {
                 return Err(after.syntax());
             }
             Ok((Identifier::Hidden(name.share()), after))
@@ -184,10 +184,10 @@ pub fn is_clause(name: &Word) -> bool
 }
 
 /// An integer with its sign.
-fn signed<'a>(cursor: Cursor<'a>) -> Parsed<'a, Signed>
+fn signed<'a>(cursor: TokenCursor<'a>) -> Parsed<'a, Signed>
     ensures further { IfOk result (λ r. IsFurther cursor.entry r.1) }
     ensures spelled { IfOk result (λ r.
-        Reads cursor.entry.rest.now (spell_signed r.0) r.1.rest.now) }
+        SpellsTree cursor.entry.rest.now (spell_signed r.0) r.1.rest.now) }
     ensures range { IfOk result (λ r. IsInRange r.0) }
     ensures moves { IfOk result (λ r. MovesBetween 0 (signed ∷ []) [] cursor.entry r.1) }
     ensures refused { IfErr result (RefusesAlways (signed ∷ []) cursor.entry) }
@@ -214,8 +214,8 @@ fn sign_of(kind: &TokenKind) -> Sign
 }
 
 /// The greatest magnitude of an integer with this sign. The lexer gives no greater one.
-fn greatest(sign: Sign) -> u64
-    ensures { result ≡ Grammar.greatest sign }
+fn greatest_magnitude(sign: Sign) -> u64
+    ensures { result ≡ Grammar.greatest_magnitude sign }
 {
     match sign {
         Sign::Minus => 9_223_372_036_854_775_808,
@@ -224,10 +224,10 @@ fn greatest(sign: Sign) -> u64
 }
 
 /// The magnitude after a sign.
-fn magnitude<'a>(sign: Sign, cursor: Cursor<'a>) -> Parsed<'a, Signed>
+fn magnitude<'a>(sign: Sign, cursor: TokenCursor<'a>) -> Parsed<'a, Signed>
     ensures further { IfOk result (λ r. IsFurther cursor.entry r.1) }
     ensures spelled { IfOk result (λ r.
-        Reads cursor.entry.rest.now (one (TokenKind.Integer r.0.magnitude)) r.1.rest.now) }
+        SpellsTree cursor.entry.rest.now (one (TokenKind.Integer r.0.magnitude)) r.1.rest.now) }
     ensures signed { IfOk result (λ r. r.0.sign ≡ sign) }
     ensures range { IfOk result (λ r. IsInRange r.0) }
     ensures moves { IfOk result (λ r. MovesBetween 0 (magnitude sign ∷ []) [] cursor.entry r.1) }
@@ -238,7 +238,7 @@ fn magnitude<'a>(sign: Sign, cursor: Cursor<'a>) -> Parsed<'a, Signed>
     };
     match &token.kind {
         TokenKind::Integer(magnitude) => {
-            if *magnitude > greatest(sign) {
+            if *magnitude > greatest_magnitude(sign) {
                 return Err(cursor.syntax());
             }
             Ok((
@@ -254,8 +254,8 @@ fn magnitude<'a>(sign: Sign, cursor: Cursor<'a>) -> Parsed<'a, Signed>
 }
 
 /// `<` and its like, and an integer.
-fn bound<'a>(cursor: Cursor<'a>) -> Parsed<'a, Expr<'a>>
-    requires { Stands IsComparison cursor.rest.now }
+fn bound<'a>(cursor: TokenCursor<'a>) -> Parsed<'a, Expr<'a>>
+    requires { IsTokenAt IsComparison cursor.rest.now }
     ensures spelled { IfOk result (ReadsLiteral cursor.entry) }
     ensures further { IfOk result (λ r. IsFurther cursor.entry r.1) }
     ensures moves { IfOk result (λ r. MovesBetween 0 (unary ∷ []) [] cursor.entry r.1) }
@@ -266,10 +266,10 @@ fn bound<'a>(cursor: Cursor<'a>) -> Parsed<'a, Expr<'a>>
     Ok((Expr::Bound(comparison, integer), rest))
 }
 
-fn comparison<'a>(cursor: Cursor<'a>) -> Parsed<'a, Comparison>
-    requires { Stands IsComparison cursor.rest.now }
+fn comparison<'a>(cursor: TokenCursor<'a>) -> Parsed<'a, Comparison>
+    requires { IsTokenAt IsComparison cursor.rest.now }
     ensures further { IfOk result (λ r. IsFurther cursor.entry r.1) }
-    ensures spelled { IfOk result (λ r. Reads cursor.entry.rest.now (one (comparison_kind r.0))
+    ensures spelled { IfOk result (λ r. SpellsTree cursor.entry.rest.now (one (comparison_kind r.0))
         r.1.rest.now) }
     ensures taken { IfErr result (λ r. ⊥) }
 {
@@ -286,8 +286,8 @@ fn comparison<'a>(cursor: Cursor<'a>) -> Parsed<'a, Comparison>
 }
 
 /// `!=`, and an integer or a string.
-fn other<'a>(cursor: Cursor<'a>) -> Parsed<'a, Expr<'a>>
-    requires { StandsSign (TokenKind.Mark Punctuation.NotEqual) cursor.rest.now }
+fn other_than<'a>(cursor: TokenCursor<'a>) -> Parsed<'a, Expr<'a>>
+    requires { IsSignAt (TokenKind.Mark Punctuation.NotEqual) cursor.rest.now }
     ensures spelled { IfOk result (ReadsLiteral cursor.entry) }
     ensures further { IfOk result (λ r. IsFurther cursor.entry r.1) }
     ensures moves { IfOk result (λ r. MovesBetween 0 (unary ∷ []) [] cursor.entry r.1) }

@@ -1,13 +1,13 @@
 ghost use Rattle.std.specs.Prelude.{◌≡◌, ◌↔◌, ◌<◌, ◌^◌, List, [], ◌∷◌};
 ghost use Rattle.cue_syntax.specs.Spots as spots;
 ghost use Rattle.cue_syntax.specs.Spots.{spot_of, open_after};
-ghost use Rattle.cue_syntax.specs.Inner.Backwards.{open_from, seen, Tells, ClosesFew, IsCloseName};
+ghost use Rattle.cue_syntax.specs.Inner.Backwards.{open_from, open_at_symbol, KnowsOpen, ClosesFew, IsCloseName};
 
 use cue_lex::{Punctuation, Token, TokenKind};
 
 /// Where a symbol stands in a text, by the tokens before it.
 #[derive(Clone, Copy)]
-pub enum Spot {
+pub enum Position {
     /// Where a declaration of the text begins.
     Top,
     /// Where a declaration of a struct begins.
@@ -42,28 +42,28 @@ pub enum Inside {
 
 /// Where the symbol after these tokens stands. It takes no memory: it goes back from the last token
 /// to the bracket that is open there.
-pub fn find_spot(before: &[Token]) -> Spot
+pub fn find_spot(before: &[Token]) -> Position
     ensures { result ≡ spot_of before.now }
 {
     match before.split_last() {
-        Some((last, earlier)) => spot_after(innermost(earlier), own_spot(earlier), &last.kind),
-        None => Spot::Top,
+        Some((last, earlier)) => spot_after(find_open(earlier), own_spot(earlier), &last.kind),
+        None => Position::Top,
     }
 }
 
 /// The spot of the symbol after these tokens, as far as a parenthesis there asks for it.
-fn own_spot(before: &[Token]) -> Spot
+fn own_spot(before: &[Token]) -> Position
     ensures { IsCloseName result ↔ IsCloseName (spot_of before.now) }
 {
     match before.split_last() {
-        Some((last, _)) => spot_after(None, Spot::Other, &last.kind),
-        None => Spot::Top,
+        Some((last, _)) => spot_after(None, Position::Other, &last.kind),
+        None => Position::Top,
     }
 }
 
 /// What is open after these tokens, the innermost of it; nothing is at the top of the text.
-fn innermost(before: &[Token]) -> Option<Inside>
-    ensures { result ≡ spots.innermost (open_from [] before.now) }
+fn find_open(before: &[Token]) -> Option<Inside>
+    ensures { result ≡ spots.innermost_open (open_from [] before.now) }
 {
     let mut back = Back {
         closed: 0,
@@ -73,8 +73,8 @@ fn innermost(before: &[Token]) -> Option<Inside>
     'tokens: while left > 0 {
         left -= 1;
         match step_back(back, &before[left].kind) {
-            Step::Open(inside) => return Some(inside),
-            Step::Further(further) => back = further,
+            BackStep::Open(inside) => return Some(inside),
+            BackStep::Further(further) => back = further,
         }
     }
     None
@@ -90,35 +90,35 @@ pub(crate) struct Back {
 }
 
 /// What a token tells on the way back.
-pub(crate) enum Step {
+pub(crate) enum BackStep {
     /// It opens what is open at the symbol.
     Open(Inside),
     Further(Back),
 }
 
 /// The step back over a bracket that opens.
-fn open(back: Back, inside: Inside) -> Step
+fn open(back: Back, inside: Inside) -> BackStep
     requires { back.closed < 2 ^ 62 }
-    ensures tells { (opened : List Inside) → Tells result opened (seen back (inside ∷ opened)) }
+    ensures tells { (opened : List Inside) → KnowsOpen result opened (open_at_symbol back (inside ∷ opened)) }
     ensures few { ClosesFew result back.closed }
 {
     if back.closed > 0 {
-        return Step::Further(Back {
+        return BackStep::Further(Back {
             closed: back.closed - 1,
             has_rest: back.has_rest,
         });
     }
     match inside {
-        Inside::List if back.has_rest => Step::Open(Inside::Rest),
-        _ => Step::Open(inside),
+        Inside::List if back.has_rest => BackStep::Open(Inside::Rest),
+        _ => BackStep::Open(inside),
     }
 }
 
 /// The step back over a token.
-fn step_back(back: Back, kind: &TokenKind) -> Step
+fn step_back(back: Back, kind: &TokenKind) -> BackStep
     requires { back.closed < 2 ^ 62 }
     ensures tells { (opened : List Inside)
-        → Tells result opened (seen back (open_after opened kind.now)) }
+        → KnowsOpen result opened (open_at_symbol back (open_after opened kind.now)) }
     ensures few { ClosesFew result back.closed }
 {
     let Back { closed, has_rest } = back;
@@ -129,58 +129,58 @@ fn step_back(back: Back, kind: &TokenKind) -> Step
         TokenKind::Mark(
             Punctuation::CloseBrace | Punctuation::CloseBracket | Punctuation::CloseParenthesis,
         ) => {
-            Step::Further(Back {
+            BackStep::Further(Back {
                 closed: closed + 1,
                 has_rest,
             })
         }
-        TokenKind::Mark(Punctuation::Ellipsis) => Step::Further(Back {
+        TokenKind::Mark(Punctuation::Ellipsis) => BackStep::Further(Back {
             closed,
             has_rest: has_rest || closed == 0,
         }),
-        _ => Step::Further(back),
+        _ => BackStep::Further(back),
     }
 }
 
 /// Where the symbol after a token stands, by what is open around that token and by its own spot.
-fn spot_after(inside: Option<Inside>, spot: Spot, kind: &TokenKind) -> Spot
+fn spot_after(inside: Option<Inside>, spot: Position, kind: &TokenKind) -> Position
     ensures { result ≡ spots.spot_after inside spot kind.now }
 {
     match kind {
-        TokenKind::Mark(Punctuation::Colon) => Spot::Value,
-        TokenKind::Mark(Punctuation::OpenBrace) => Spot::Inner,
+        TokenKind::Mark(Punctuation::Colon) => Position::Value,
+        TokenKind::Mark(Punctuation::OpenBrace) => Position::Inner,
         TokenKind::Mark(
             Punctuation::OpenBracket
             | Punctuation::Ampersand
             | Punctuation::Bar
             | Punctuation::Star,
-        ) => { Spot::Operand }
+        ) => { Position::Operand }
         TokenKind::Mark(Punctuation::OpenParenthesis) => match spot {
-            Spot::CloseName => Spot::CloseArgument,
-            _ => Spot::Operand,
+            Position::CloseName => Position::CloseArgument,
+            _ => Position::Operand,
         },
         TokenKind::Mark(Punctuation::Comma) => match inside {
-            None => Spot::Top,
-            Some(Inside::Struct) => Spot::Inner,
-            Some(Inside::List) => Spot::Operand,
-            _ => Spot::Other,
+            None => Position::Top,
+            Some(Inside::Struct) => Position::Inner,
+            Some(Inside::List) => Position::Operand,
+            _ => Position::Other,
         },
         TokenKind::Mark(Punctuation::Ellipsis) => match inside {
-            None | Some(Inside::Struct) => Spot::Ellipsis,
-            Some(Inside::List) => Spot::Operand,
-            _ => Spot::Other,
+            None | Some(Inside::Struct) => Position::Ellipsis,
+            Some(Inside::List) => Position::Operand,
+            _ => Position::Other,
         },
         TokenKind::Mark(
             Punctuation::Less | Punctuation::AtMost | Punctuation::Greater | Punctuation::AtLeast,
-        ) => { Spot::Bound }
-        TokenKind::Mark(Punctuation::NotEqual) => Spot::NotEqual,
+        ) => { Position::Bound }
+        TokenKind::Mark(Punctuation::NotEqual) => Position::NotEqual,
         TokenKind::Name(name) => {
             if name.as_str() == "close" {
-                Spot::CloseName
+                Position::CloseName
             } else {
-                Spot::Other
+                Position::Other
             }
         }
-        _ => Spot::Other,
+        _ => Position::Other,
     }
 }

@@ -12,18 +12,18 @@ pub enum Why {
 
 /// Why the parser stopped, and how many tokens were left there.
 #[derive(Clone, Copy)]
-pub struct Stop {
+pub struct ParserStop {
     pub why: Why,
     pub left: usize,
 }
 
-impl From<Memory> for Stop {
-    ghost use Rattle.cue_syntax.specs.Stops.{IsMemory};
+impl From<Memory> for ParserStop {
+    ghost use Rattle.cue_syntax.specs.Stops.{IsMemoryParserStop};
 
-    ghost from_gives = { λ _ stop. IsMemory stop };
+    ghost from_gives = { λ _ stop. IsMemoryParserStop stop };
 
-    fn from(memory: Memory) -> Stop {
-        Stop {
+    fn from(memory: Memory) -> ParserStop {
+        ParserStop {
             why: Why::Memory(memory),
             left: 0,
         }

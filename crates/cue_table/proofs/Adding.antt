@@ -6,7 +6,7 @@ use Rattle.std.specs.declared.cmp.Ordering.TheVariants.{Less, Equal, Greater}
 use Rattle.cue_lattice.specs.Path.{Step, step_cmp, Path}
 use Rattle.cue_table.specs.Tree.{Tree, none, child, find}
 use Rattle.cue_table.specs.Refuses.{TableRefuses}
-use Rattle.cue_table.specs.Form.{IsTaken, IsTree}
+use Rattle.cue_table.specs.Form.{IsTreeTaken, IsTree}
 use Rattle.cue_table.specs.Meet.{IsMet, IsAdded}
 use Rattle.cue_table.specs.Inner.Meet.{chain}
 use Rattle.cue_table.proofs.Order.{equal_steps}
@@ -14,7 +14,7 @@ use Rattle.cue_table.proofs.Finding.{same_step}
 use Rattle.cue_table.proofs.Branches.{find_first, find_before, find_past, found_refuses}
 
 module _ {R : Type 0} where
-  chain_taken : (path : Path) (row : R) → IsTaken (chain path row)
+  chain_taken : (path : Path) (row : R) → IsTreeTaken (chain path row)
   chain_taken [] row = tt
   chain_taken (step ∷ path) row = tt
 

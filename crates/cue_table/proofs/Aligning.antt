@@ -7,9 +7,9 @@ use Rattle.std.specs.Global.{Global}
 use Rattle.cue_lattice.specs.Path.{label, index, step_cmp, Path}
 use Rattle.cue_table.specs.declared.node.Onward.{Onward}
 use Rattle.cue_table.specs.declared.node.Node.TheInside.{Inside}
-use Rattle.cue_table.specs.Tree.{Tree, Children, none, child, Rest, no_rest, onward, find, rest_tree}
+use Rattle.cue_table.specs.Tree.{Tree, Children, none, child, Rest, no_rest, onward, find, rest_at}
 use Rattle.cue_table.specs.Depth.{tree_depth, rest_depth}
-use Rattle.cue_table.specs.Form.{IsRow, IsTree, AreBranches, AreWithin, IsRestOf, IsKept}
+use Rattle.cue_table.specs.Form.{IsTableRow, IsTree, AreBranches, AreWithinDepth, IsRestOf, IsRowKept}
 use Rattle.cue_table.specs.Meet.{IsMet, IsUnion}
 use Rattle.cue_table.specs.Inner.Meet.{IsMerge}
 use Rattle.cue_table.specs.Inner.Rests.{AreMetRests, BranchRefuses, IsBranch}
@@ -21,7 +21,7 @@ use Rattle.cue_table.proofs.Finding.{find_form}
 
 module _ {R : Type 0} where
   -- where each element that is found stands below an index, all do
-  within_found : (P : R → Type 0) (n : ℕ) (children : Children R) → AreBranches P children → ((i : ℕ) (tree : Tree R) → find (index i) children ≡ Some tree → i < n) → AreWithin n children
+  within_found : (P : R → Type 0) (n : ℕ) (children : Children R) → AreBranches P children → ((i : ℕ) (tree : Tree R) → find (index i) children ≡ Some tree → i < n) → AreWithinDepth n children
   within_found P n none h low = tt
   within_found P n (child (label text) tree children) h low =
       within_found P n children h.3 (λ i found e. low i found (found_later (label text) tree children h.0 (index i) found e (step_cmp (index i) (label text)) refl))
@@ -31,16 +31,16 @@ module _ {R : Type 0} where
   )
 
   -- the rest of a place in form is in form
-  pub rest_branch : (P : R → Type 0) (children : Children R) (rest : Rest R) → IsRestOf P children rest → IsBranch P (rest_tree rest)
+  pub rest_branch : (P : R → Type 0) (children : Children R) (rest : Rest R) → IsRestOf P children rest → IsBranch P (rest_at rest)
   rest_branch P children no_rest h = tt
   rest_branch P children (onward n tree) h = (h.2, h.3)
 
 module _ {R Q : Type 0} (refuses : R → Q → Type 0) (is_value : R → Type 0) where
   abbrev Kept : R → Type 0
-  Kept = IsKept refuses is_value
+  Kept = IsRowKept refuses is_value
 
   -- what is met has no element where neither of both has one
-  pub merged_within : (n : ℕ) (left right met : Children R) → AreWithin n left → AreWithin n right → IsMerge refuses Kept left right met → AreWithin n met
+  pub merged_within : (n : ℕ) (left right met : Children R) → AreWithinDepth n left → AreWithinDepth n right → IsMerge refuses Kept left right met → AreWithinDepth n met
   merged_within n left right met h k merge = within_found Kept n met merge.form low
     where
       low : (i : ℕ) (tree : Tree R) → find (index i) met ≡ Some tree → i < n
@@ -66,13 +66,13 @@ module _ {R Q : Type 0} (refuses : R → Q → Type 0) where
 
 module _ {R Q : Type 0} where
   -- the parts of a node in form are in form
-  pub node_form : (P : R → Type 0) (a : Inside R Q) (tree : Tree R) → tree_of a ≡ tree → IsTree P tree → IsRow P a.row × AreBranches P (below_in (branches a.children.items) a.rest) × IsRestOf P (below_in (branches a.children.items) a.rest) (rest_in a.rest)
+  pub node_form : (P : R → Type 0) (a : Inside R Q) (tree : Tree R) → tree_of a ≡ tree → IsTree P tree → IsTableRow P a.row × AreBranches P (below_in (branches a.children.items) a.rest) × IsRestOf P (below_in (branches a.children.items) a.rest) (rest_in a.rest)
   node_form P a tree e h = let here : IsTree P (tree_of a) = subst (IsTree P) (sym e) h in here
 
   -- what is boxed as the rest is the rest
-  pub rest_is : (rest : Option (Box (Onward R Q) Global)) (b : Box (Onward R Q) Global) (v : Onward R Q) → rest ≡ Some b → v ≡ b.value → (rest_tree (rest_in rest) ≡ Some v.node) × (rest_depth (rest_in rest) ≡ tree_depth v.node + 1)
+  pub rest_is : (rest : Option (Box (Onward R Q) Global)) (b : Box (Onward R Q) Global) (v : Onward R Q) → rest ≡ Some b → v ≡ b.value → (rest_at (rest_in rest) ≡ Some v.node) × (rest_depth (rest_in rest) ≡ tree_depth v.node + 1)
   rest_is rest b v e f = (
-    ap (λ r. rest_tree (rest_in r)) e ∙ ap (λ o. Some o.node) (sym f),
+    ap (λ r. rest_at (rest_in r)) e ∙ ap (λ o. Some o.node) (sym f),
     ap (λ r. rest_depth (rest_in r)) e ∙ ap (λ o. tree_depth o.node + 1) (sym f),
   )
 

@@ -3,15 +3,15 @@ use Rattle.std.proofs.Common.{◌≡◌, ℕ, zero, suc, ◌<◌, ◌≤◌, Som
 use Rattle.std.specs.declared.cmp.Ordering.TheVariants.{Greater}
 use Rattle.std.proofs.lemmas.Bool.{cases_lt}
 use Rattle.cue_lattice.specs.Path.{label, index, step_cmp}
-use Rattle.cue_table.specs.Tree.{Tree, Children, none, child, Rest, no_rest, onward, find, find_with, rest_tree, behind_last, fixed_with}
-use Rattle.cue_table.specs.Form.{AreBranches, Differs, IsRestOf}
+use Rattle.cue_table.specs.Tree.{Tree, Children, none, child, Rest, no_rest, onward, find, find_with, rest_at, behind_last, fixed_with}
+use Rattle.cue_table.specs.Form.{AreBranches, DiffersFromRest, IsRestOf}
 use Rattle.cue_table.proofs.Branches.{find_first, find_rest, find_fixed}
 use Rattle.cue_table.proofs.Exact.{none_within, within_last}
 use Rattle.cue_table.proofs.Depth.{found_later}
 
 module _ {R : Type 0} where
   -- from the fixed index on each element is the rest
-  pub rest_found : (rest : Rest R) (children : Children R) (i : ℕ) → fixed_with rest children ≤ i → find_with rest (index i) children ≡ rest_tree rest
+  pub rest_found : (rest : Rest R) (children : Children R) (i : ℕ) → fixed_with rest children ≤ i → find_with rest (index i) children ≡ rest_at rest
   rest_found no_rest children i h = none_within i i children (within_last i children h) (omega arith)
   rest_found (onward n tree) children i h = find_rest n tree children i h
 
@@ -46,7 +46,7 @@ module _ {R : Type 0} where
       let no : Some own.0 ≡ None = sym own.1 ∙ same ∙ far in
       cc
 
-  not_beyond : (n : ℕ) (tree : Tree R) (children : Children R) (least : ℕ) → Differs n tree children → AlikeFrom least (onward n tree) children → least < n → ⊥
+  not_beyond : (n : ℕ) (tree : Tree R) (children : Children R) (least : ℕ) → DiffersFromRest n tree children → AlikeFrom least (onward n tree) children → least < n → ⊥
   not_beyond zero tree children least d alike l = absurd (omega arith)
   not_beyond (suc n) tree children least d alike l =
       d (sym (find_fixed (suc n) tree children n (omega arith)) ∙ alike n (suc n) (omega arith) (omega arith) ∙ find_rest (suc n) tree children (suc n) (omega arith))

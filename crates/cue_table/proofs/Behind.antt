@@ -7,7 +7,7 @@ use Rattle.cue_lattice.specs.Path.{Step, label, index, step_cmp}
 use Rattle.cue_row.specs.Steps.{step_of}
 use Rattle.cue_table.specs.Inner.Child.{Child}
 use Rattle.cue_table.specs.Tree.{Tree, Children, none, child, if_equal, find, behind_last}
-use Rattle.cue_table.specs.Form.{IsBelowAll, IsTaken, IsTree, AreBranches, AreWithin}
+use Rattle.cue_table.specs.Form.{IsStepBelowAll, IsTreeTaken, IsTree, AreBranches, AreWithinDepth}
 use Rattle.cue_table.specs.Inner.RowList.{last_cmp}
 use Rattle.cue_table.specs.Inner.View.{branches}
 use Rattle.cue_table.proofs.Branches.{find_first, find_past, own_below}
@@ -28,13 +28,13 @@ module _ {R : Type 0} where
   skip Greater tree other h = refl
 
   -- elements stand below each greater index
-  pub within_more : (n m : ℕ) (children : Children R) → n ≤ m → AreWithin n children → AreWithin m children
+  pub within_more : (n m : ℕ) (children : Children R) → n ≤ m → AreWithinDepth n children → AreWithinDepth m children
   within_more n m none h k = tt
   within_more n m (child (label text) tree children) h k = within_more n m children h k
   within_more n m (child (index i) tree children) h k = (omega (arith, h, k.0), within_more n m children h k.1)
 
   -- where they stand below an index, none is found from it on
-  pub none_from : (n i : ℕ) (children : Children R) → n ≤ i → AreWithin n children → find (index i) children ≡ None
+  pub none_from : (n i : ℕ) (children : Children R) → n ≤ i → AreWithinDepth n children → find (index i) children ≡ None
   none_from n i children h k = by (find (index i) children) refl
     where
       by : (found : Option (Tree R)) → find (index i) children ≡ found → find (index i) children ≡ None
@@ -42,37 +42,37 @@ module _ {R : Type 0} where
       by (Some tree) e = let low = own_below n i tree children k e in absurd (omega (arith, h, low))
 
   -- they stand below the index behind the last
-  pub within_behind : (n : ℕ) (children : Children R) → behind_last children ≤ n → AreWithin n children
+  pub within_behind : (n : ℕ) (children : Children R) → behind_last children ≤ n → AreWithinDepth n children
   within_behind n none h = tt
   within_behind n (child (label text) tree children) h = within_behind n children h
   within_behind n (child (index i) tree children) h = (omega arith, within_behind n children (omega arith))
 
   -- one branch in front
-  within_front : (n m : ℕ) (step : Step) (tree : Tree R) (children others : Children R) → n ≤ m → (AreWithin n children → AreWithin m others) → AreWithin n (child step tree children) → AreWithin m (child step tree others)
+  within_front : (n m : ℕ) (step : Step) (tree : Tree R) (children others : Children R) → n ≤ m → (AreWithinDepth n children → AreWithinDepth m others) → AreWithinDepth n (child step tree children) → AreWithinDepth m (child step tree others)
   within_front n m (label text) tree children others h f k = f k
   within_front n m (index i) tree children others h f k = (omega (arith, h, k.0), f k.1)
 
-  within_low : (n i : ℕ) (step : Step) (tree : Tree R) (children others : Children R) → step_cmp step (index i) ≡ Less → (AreWithin n children → AreWithin i others) → AreWithin n (child step tree children) → AreWithin i (child step tree others)
+  within_low : (n i : ℕ) (step : Step) (tree : Tree R) (children others : Children R) → step_cmp step (index i) ≡ Less → (AreWithinDepth n children → AreWithinDepth i others) → AreWithinDepth n (child step tree children) → AreWithinDepth i (child step tree others)
   within_low n i (label text) tree children others h f k = f k
   within_low n i (index j) tree children others h f k = (numbers_less j i h, f k.1)
 
-  within_labels : (l : List ℕ) (step : Step) (tree : Tree R) (others : Children R) → step_cmp step (label l) ≡ Less → AreWithin 0 others → AreWithin 0 (child step tree others)
+  within_labels : (l : List ℕ) (step : Step) (tree : Tree R) (others : Children R) → step_cmp step (label l) ≡ Less → AreWithinDepth 0 others → AreWithinDepth 0 (child step tree others)
   within_labels l (label text) tree others h k = k
   within_labels l (index j) tree others h k = absurd cc
 
-  low_step : (n : ℕ) (step : Step) (tree : Tree R) (children : Children R) → AreWithin n (child step tree children) → step_cmp step (index n) ≡ Less
+  low_step : (n : ℕ) (step : Step) (tree : Tree R) (children : Children R) → AreWithinDepth n (child step tree children) → step_cmp step (index n) ≡ Less
   low_step n (label text) tree children k = refl
   low_step n (index i) tree children k = less_numbers i n k.0
 
-  within_later : (n : ℕ) (step : Step) (tree : Tree R) (children : Children R) → AreWithin n (child step tree children) → AreWithin n children
+  within_later : (n : ℕ) (step : Step) (tree : Tree R) (children : Children R) → AreWithinDepth n (child step tree children) → AreWithinDepth n children
   within_later n (label text) tree children k = k
   within_later n (index i) tree children k = k.1
 
-  alone_within : (n : ℕ) (step : Step) (tree : Tree R) → step ≡ index n → AreWithin (n + 1) (child step tree none)
-  alone_within n step tree e = subst (λ s. AreWithin (n + 1) (child s tree none)) (sym e) (omega arith, tt)
+  alone_within : (n : ℕ) (step : Step) (tree : Tree R) → step ≡ index n → AreWithinDepth (n + 1) (child step tree none)
+  alone_within n step tree e = subst (λ s. AreWithinDepth (n + 1) (child s tree none)) (sym e) (omega arith, tt)
 
-  alone_label : (l : List ℕ) (step : Step) (tree : Tree R) → step ≡ label l → AreWithin 0 (child step tree none)
-  alone_label l step tree e = subst (λ s. AreWithin 0 (child s tree none)) (sym e) tt
+  alone_label : (l : List ℕ) (step : Step) (tree : Tree R) → step ≡ label l → AreWithinDepth 0 (child step tree none)
+  alone_label l step tree e = subst (λ s. AreWithinDepth 0 (child s tree none)) (sym e) tt
 
 module _ {R : Type 0} where
   -- other steps find what they found before
@@ -80,11 +80,11 @@ module _ {R : Type 0} where
   find_other step [] c h = skip (step_cmp step (step_of c.step)) c.node None h
   find_other step (x ∷ cs) c h = ap (if_equal (step_cmp step (step_of x.step)) x.node) (find_other step cs c h)
 
-  below_end : (step : Step) (cs : List (Child R)) (c : Child R) → IsBelowAll step (branches (cs ++ c ∷ [])) → step_cmp step (step_of c.step) ≡ Less
+  below_end : (step : Step) (cs : List (Child R)) (c : Child R) → IsStepBelowAll step (branches (cs ++ c ∷ [])) → step_cmp step (step_of c.step) ≡ Less
   below_end step [] c h = h.0
   below_end step (x ∷ cs) c h = below_end step cs c h.1
 
-  below_others : (step : Step) (cs : List (Child R)) (c : Child R) → IsBelowAll step (branches (cs ++ c ∷ [])) → IsBelowAll step (branches cs)
+  below_others : (step : Step) (cs : List (Child R)) (c : Child R) → IsStepBelowAll step (branches (cs ++ c ∷ [])) → IsStepBelowAll step (branches cs)
   below_others step [] c h = tt
   below_others step (x ∷ cs) c h = (h.0, below_others step cs c h.1)
 
@@ -101,36 +101,36 @@ module _ {R : Type 0} where
   form_others P (x ∷ cs) c h = (below_others (step_of x.step) cs c h.0, h.1, h.2, form_others P cs c h.3)
 
   -- an element behind others, which stand below it
-  pub within_end : (n : ℕ) (cs : List (Child R)) (c : Child R) → step_of c.step ≡ index n → AreWithin n (branches cs) → AreWithin (n + 1) (branches (cs ++ c ∷ []))
+  pub within_end : (n : ℕ) (cs : List (Child R)) (c : Child R) → step_of c.step ≡ index n → AreWithinDepth n (branches cs) → AreWithinDepth (n + 1) (branches (cs ++ c ∷ []))
   within_end n [] c e k = alone_within n (step_of c.step) c.node e
   within_end n (x ∷ cs) c e k = within_front n (n + 1) (step_of x.step) x.node (branches cs) (branches (cs ++ c ∷ [])) (omega arith) (λ rest. within_end n cs c e rest) k
 
   -- the others stand below the last element
-  pub within_others : (P : R → Type 0) (n i : ℕ) (cs : List (Child R)) (c : Child R) → step_of c.step ≡ index i → AreBranches P (branches (cs ++ c ∷ [])) → AreWithin n (branches (cs ++ c ∷ [])) → AreWithin i (branches cs)
+  pub within_others : (P : R → Type 0) (n i : ℕ) (cs : List (Child R)) (c : Child R) → step_of c.step ≡ index i → AreBranches P (branches (cs ++ c ∷ [])) → AreWithinDepth n (branches (cs ++ c ∷ [])) → AreWithinDepth i (branches cs)
   within_others P n i [] c e h k = tt
   within_others P n i (x ∷ cs) c e h k =
       let low : step_cmp (step_of x.step) (index i) ≡ Less = subst (λ s. step_cmp (step_of x.step) s ≡ Less) e (below_end (step_of x.step) cs c h.0) in
       within_low n i (step_of x.step) x.node (branches (cs ++ c ∷ [])) (branches cs) low (λ rest. within_others P n i cs c e h.3 rest) k
 
   -- where a label stands last, there is no element
-  pub within_label : (P : R → Type 0) (l : List ℕ) (cs : List (Child R)) (c : Child R) → step_of c.step ≡ label l → AreBranches P (branches (cs ++ c ∷ [])) → AreWithin 0 (branches (cs ++ c ∷ []))
+  pub within_label : (P : R → Type 0) (l : List ℕ) (cs : List (Child R)) (c : Child R) → step_of c.step ≡ label l → AreBranches P (branches (cs ++ c ∷ [])) → AreWithinDepth 0 (branches (cs ++ c ∷ []))
   within_label P l [] c e h = alone_label l (step_of c.step) c.node e
   within_label P l (x ∷ cs) c e h =
       let low : step_cmp (step_of x.step) (label l) ≡ Less = subst (λ s. step_cmp (step_of x.step) s ≡ Less) e (below_end (step_of x.step) cs c h.0) in
       within_labels l (step_of x.step) x.node (branches (cs ++ c ∷ [])) low (within_label P l cs c e h.3)
 
-  last_low : (n : ℕ) (cs : List (Child R)) → AreWithin n (branches cs) → last_cmp (index n) (branches cs) ≡ Less
+  last_low : (n : ℕ) (cs : List (Child R)) → AreWithinDepth n (branches cs) → last_cmp (index n) (branches cs) ≡ Less
   last_low n [] k = refl
   last_low n (x ∷ []) k = low_step n (step_of x.step) x.node none k
   last_low n (x ∷ y ∷ cs) k = last_low n (y ∷ cs) (within_later n (step_of x.step) x.node (branches (y ∷ cs)) k)
 
   -- one more element is in form
-  pub form_end : (P : R → Type 0) (n : ℕ) (cs : List (Child R)) (c : Child R) → step_of c.step ≡ index n → AreWithin n (branches cs) → AreBranches P (branches cs) → IsTaken c.node → IsTree P c.node → AreBranches P (branches (cs ++ c ∷ []))
+  pub form_end : (P : R → Type 0) (n : ℕ) (cs : List (Child R)) (c : Child R) → step_of c.step ≡ index n → AreWithinDepth n (branches cs) → AreBranches P (branches cs) → IsTreeTaken c.node → IsTree P c.node → AreBranches P (branches (cs ++ c ∷ []))
   form_end P n cs c e k h t f =
       form_more P cs c (subst (λ s. last_cmp s (branches cs) ≡ Less) (sym e) (last_low n cs k)) h t f
 
   -- the element before an index, where one is found there, stands last
-  pub end_is : (P : R → Type 0) (i : ℕ) (cs : List (Child R)) (c : Child R) (tree : Tree R) → AreBranches P (branches (cs ++ c ∷ [])) → AreWithin (suc i) (branches (cs ++ c ∷ [])) → find (index i) (branches (cs ++ c ∷ [])) ≡ Some tree → step_of c.step ≡ index i
+  pub end_is : (P : R → Type 0) (i : ℕ) (cs : List (Child R)) (c : Child R) (tree : Tree R) → AreBranches P (branches (cs ++ c ∷ [])) → AreWithinDepth (suc i) (branches (cs ++ c ∷ [])) → find (index i) (branches (cs ++ c ∷ [])) ≡ Some tree → step_of c.step ≡ index i
   end_is P i cs c tree h k e = by (step_of c.step) refl
     where
       by : (s : Step) → step_of c.step ≡ s → step_of c.step ≡ index i

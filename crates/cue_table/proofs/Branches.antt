@@ -5,7 +5,7 @@ use Rattle.std.specs.declared.cmp.Ordering.TheVariants.{Less, Equal, Greater}
 use Rattle.cue_lattice.specs.Path.{Step, label, index, step_cmp, Path}
 use Rattle.cue_table.specs.Tree.{Tree, node, Children, none, child, Rest, no_rest, onward, row_of, if_equal, find, find_with, branch_at}
 use Rattle.cue_table.specs.Refuses.{RowRefuses, TableRefuses}
-use Rattle.cue_table.specs.Form.{IsBelowAll, IsTaken, IsTree, IsKept, AreWithin, IsRestOf}
+use Rattle.cue_table.specs.Form.{IsStepBelowAll, IsTreeTaken, IsTree, IsRowKept, AreWithinDepth, IsRestOf}
 use Rattle.cue_table.proofs.Order.{step_total, equal_steps}
 use Rattle.std.proofs.lemmas.Bool.{lt-ltb, le-ltb}
 use Rattle.std.specs.declared.cmp.Ordering.{Ordering}
@@ -25,17 +25,17 @@ module _ {R : Type 0} where
   find_past step next tree children h = ap (λ o. if_equal o tree (find step children)) h
 
   -- a step before all is that of none
-  pub find_below : (step : Step) (children : Children R) → IsBelowAll step children → find step children ≡ None
+  pub find_below : (step : Step) (children : Children R) → IsStepBelowAll step children → find step children ≡ None
   find_below step none h = refl
   find_below step (child next tree children) h = find_before step next tree children h.0 ∙ find_below step children h.1
 
   -- what is below a step is below all that are above it
-  pub below_all : (a b : Step) (children : Children R) → step_cmp a b ≡ Less → IsBelowAll b children → IsBelowAll a children
+  pub below_all : (a b : Step) (children : Children R) → step_cmp a b ≡ Less → IsStepBelowAll b children → IsStepBelowAll a children
   below_all a b none h k = tt
   below_all a b (child next tree children) h k = (step_total.trans a b next h k.0, below_all a b children h k.1)
 
   -- an element that stands by itself is before the rest
-  pub own_below : (n i : ℕ) (tree : Tree R) (children : Children R) → AreWithin n children → find (index i) children ≡ Some tree → i < n
+  pub own_below : (n i : ℕ) (tree : Tree R) (children : Children R) → AreWithinDepth n children → find (index i) children ≡ Some tree → i < n
   own_below n i tree none h e = cc
   own_below n i tree (child (label text) here children) h e = own_below n i tree children h e
   own_below n i tree (child (index j) here children) h e = by (step_cmp (index i) (index j)) refl (λ f. own_below n i tree children h.1 f)
@@ -74,10 +74,10 @@ module _ {R Q : Type 0} (refuses : R → Q → Type 0) where
 
   module _ (is_value : R → Type 0) where
     abbrev Kept : R → Type 0
-    Kept = IsKept refuses is_value
+    Kept = IsRowKept refuses is_value
 
     -- a tree with rows refuses something
-    pub not_silent : (tree : Tree R) → IsTaken tree → IsTree Kept tree → ((path : Path) (question : Q) → ¬ TableRefuses refuses tree path question) → ⊥
+    pub not_silent : (tree : Tree R) → IsTreeTaken tree → IsTree Kept tree → ((path : Path) (question : Q) → ¬ TableRefuses refuses tree path question) → ⊥
     not_silent (node (Some row) cs rest) t h silent = h.0.1 (λ question. silent [] question)
     not_silent (node None none no_rest) t h silent = t
     not_silent (node None none (onward n tree)) t h silent =

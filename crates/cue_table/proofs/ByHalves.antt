@@ -13,12 +13,12 @@ use Rattle.cue_lattice.specs.OneOf.{OneOf}
 use Rattle.cue_lattice.specs.Path.{Step, step_cmp, Path}
 use Rattle.cue_row.specs.Steps.{step_of}
 use Rattle.cue_row.specs.declared.step.Step as program
-use Rattle.cue_table.specs.Tree.{Tree, node, none, child, no_rest, onward, empty, taken, find}
+use Rattle.cue_table.specs.Tree.{Tree, node, none, child, no_rest, onward, empty, if_not_empty, find}
 use Rattle.cue_table.specs.Inner.Child.{Child}
-use Rattle.cue_table.specs.Inner.Given.{given_of, has_rows, hung}
+use Rattle.cue_table.specs.Inner.Given.{given_of, has_rows, tree_of_branch}
 use Rattle.cue_table.specs.Refuses.{TableRefuses}
 use Rattle.cue_table.specs.Meet.{IsMet}
-use Rattle.cue_table.specs.Many.{IsOfBranches, IsUnified}
+use Rattle.cue_table.specs.Many.{IsOfBranches, AreUnified}
 use Rattle.cue_table.proofs.Order.{equal_steps}
 use Rattle.cue_table.proofs.Finding.{same_step}
 use Rattle.cue_table.proofs.Branches.{find_first, find_before, find_past, found_refuses}
@@ -34,21 +34,21 @@ module _ {R Q : Type 0} (refuses : R → Q → Type 0) where
   free [] question h = h
   free (step ∷ path) question h = h
 
-  pub unified_none : IsUnified refuses [] empty
+  pub unified_none : AreUnified refuses [] empty
   unified_none path question = (free path question, λ h. absurd h)
 
   -- the first of no tables
-  pub unified_end : (tables : List (Tree R)) → length tables ≡ 0 → IsUnified refuses (take 1 tables) empty
+  pub unified_end : (tables : List (Tree R)) → length tables ≡ 0 → AreUnified refuses (take 1 tables) empty
   unified_end [] e = unified_none
   unified_end (table ∷ tables) e = cc
 
-  pub unified_one : (table : Tree R) → IsUnified refuses (table ∷ []) table
+  pub unified_one : (table : Tree R) → AreUnified refuses (table ∷ []) table
   unified_one table path question = (λ h. inl h, ⊎_elim (λ h. h) (λ h. absurd h))
 
   -- the front of a list and then the other tables
   pub unified_both :
-      (front back : List (Tree R)) (left right met : Tree R) → IsUnified refuses front left → IsUnified refuses back right → IsMet refuses left right met
-      → IsUnified refuses (front ++ back) met
+      (front back : List (Tree R)) (left right met : Tree R) → AreUnified refuses front left → AreUnified refuses back right → IsMet refuses left right met
+      → AreUnified refuses (front ++ back) met
   unified_both front back left right met h k both path question =
       let parts = one_of-append (λ table. TableRefuses refuses table path question) front back in (
         λ r. parts.1 (⊎_elim (λ x. inl ((h path question).0 x)) (λ x. inr ((k path question).0 x)) ((both path question).0 r)),
@@ -58,13 +58,13 @@ module _ {R Q : Type 0} (refuses : R → Q → Type 0) where
   -- the first tables of a list, and then more
   pub unified_more :
       (tables rest : List (Tree R)) (half count : ℕ) (left right met : Tree R) → half ≤ count → rest ≡ drop half tables
-      → IsUnified refuses (take half tables) left → IsUnified refuses (take (count - half) rest) right → IsMet refuses left right met
-      → IsUnified refuses (take count tables) met
+      → AreUnified refuses (take half tables) left → AreUnified refuses (take (count - half) rest) right → IsMet refuses left right met
+      → AreUnified refuses (take count tables) met
   unified_more tables rest half count left right met few is h k both =
       let sum : half + (count - half) ≡ count = omega (arith, few) in
       let whole : take half tables ++ take (count - half) rest ≡ take count tables =
       ap (λ ts. take half tables ++ take (count - half) ts) is ∙ sym (take-add half (count - half) tables) ∙ ap (λ n. take n tables) sum in
-      subst (λ ts. IsUnified refuses ts met) whole (unified_both (take half tables) (take (count - half) rest) left right met h k both)
+      subst (λ ts. AreUnified refuses ts met) whole (unified_both (take half tables) (take (count - half) rest) left right met h k both)
 
   -- one branch alone refuses at its step what the branch does
   pub one_branch :
@@ -85,13 +85,13 @@ module _ {R Q : Type 0} (refuses : R → Q → Type 0) where
         λ h. found_refuses refuses (Some tree) (find at (child step tree none)) (sym found) path question h.1,
       )
 
-  none_at_root : (given : List (Child R)) (question : Q) → ¬ OneOf (λ table. TableRefuses refuses table [] question) (map hung given)
+  none_at_root : (given : List (Child R)) (question : Q) → ¬ OneOf (λ table. TableRefuses refuses table [] question) (map tree_of_branch given)
   none_at_root [] question h = h
   none_at_root (c ∷ given) question h = ⊎_elim (λ r. r) (none_at_root given question) h
 
   one_below :
       (given : List (Child R)) (at : Step) (path : Path) (question : Q)
-      → OneOf (λ table. TableRefuses refuses table (at ∷ path) question) (map hung given)
+      → OneOf (λ table. TableRefuses refuses table (at ∷ path) question) (map tree_of_branch given)
       ↔ OneOf (λ one. (step_of one.0 ≡ at) × TableRefuses refuses one.1 path question) (map given_of given)
   one_below [] at path question = (λ h. h, λ h. h)
   one_below (c ∷ given) at path question =
@@ -102,7 +102,7 @@ module _ {R Q : Type 0} (refuses : R → Q → Type 0) where
       )
 
   -- what is given, each below its step and then unified
-  pub branches_given : (given : List (Child R)) (met : Tree R) → IsUnified refuses (map hung given) met → IsOfBranches refuses (map given_of given) met
+  pub branches_given : (given : List (Child R)) (met : Tree R) → AreUnified refuses (map tree_of_branch given) met → IsOfBranches refuses (map given_of given) met
   branches_given given met all = record {
     root = λ question r. none_at_root given question ((all [] question).0 r);
     below = λ at path question.
@@ -111,7 +111,7 @@ module _ {R Q : Type 0} (refuses : R → Q → Type 0) where
   }
 
   -- a table without rows refuses nothing
-  rowless : (tree : Tree R) (path : Path) (question : Q) → is_some (taken tree) ≡ false → ¬ TableRefuses refuses tree path question
+  rowless : (tree : Tree R) (path : Path) (question : Q) → is_some (if_not_empty tree) ≡ false → ¬ TableRefuses refuses tree path question
   rowless (node (Some row) children rest) path question e = absurd (cc)
   rowless (node None (child next tree children) rest) path question e = absurd (cc)
   rowless (node None none (onward n tree)) path question e = absurd (cc)

@@ -7,7 +7,7 @@ use Rattle.std.specs.declared.cmp.Ordering.TheVariants.{Less, Equal, Greater}
 use Rattle.cue_lattice.specs.Path.{Step, label, index, step_cmp, Path}
 use Rattle.cue_table.specs.Tree.{Tree, node, Children, none, child, Rest, no_rest, onward, row_of, find, find_with, branch_at, row_at}
 use Rattle.cue_table.specs.Depth.{tree_depth, children_depth, rest_depth}
-use Rattle.cue_table.specs.Form.{IsBelowAll, IsTaken, IsTree, AreBranches, IsRestOf, IsKept}
+use Rattle.cue_table.specs.Form.{IsStepBelowAll, IsTreeTaken, IsTree, AreBranches, IsRestOf, IsRowKept}
 use Rattle.cue_table.specs.Refuses.{RowRefuses, TableRefuses}
 use Rattle.cue_table.specs.Meet.{IsMet}
 use Rattle.cue_table.specs.Inner.Meet.{chain}
@@ -26,7 +26,7 @@ module _ {R : Type 0} where
   row_found (Some tree) path row e = (tree, refl, e)
 
   -- what is found among the later branches is found among all
-  pub found_later : (s : Step) (t : Tree R) (children : Children R) → IsBelowAll s children → (step : Step) (tree : Tree R) → find step children ≡ Some tree → (o : Ordering) → step_cmp step s ≡ o → find step (child s t children) ≡ Some tree
+  pub found_later : (s : Step) (t : Tree R) (children : Children R) → IsStepBelowAll s children → (step : Step) (tree : Tree R) → find step children ≡ Some tree → (o : Ordering) → step_cmp step s ≡ o → find step (child s t children) ≡ Some tree
   found_later s t children h step tree e Less c = find_before step s t children c ∙ e
   found_later s t children h step tree e Greater c = find_past step s t children c ∙ e
   found_later s t children h step tree e Equal c =
@@ -43,7 +43,7 @@ module _ {R : Type 0} where
 
   -- in each branch that is not empty a row stands
   mutual
-    pub taken_row : (P : R → Type 0) (tree : Tree R) → IsTaken tree → IsTree P tree → (path : Path) × (row : R) × (row_at tree path ≡ Some row)
+    pub taken_row : (P : R → Type 0) (tree : Tree R) → IsTreeTaken tree → IsTree P tree → (path : Path) × (row : R) × (row_at tree path ≡ Some row)
     taken_row P (node (Some row) children rest) t h = ([], row, refl)
     taken_row P (node None none no_rest) t h = absurd t
     taken_row P (node None none (onward n tree)) t h =
@@ -134,11 +134,11 @@ module _ {R Q : Type 0} (refuses : R → Q → Type 0) where
 
   -- where nothing is refused at paths longer than n, the table is not deeper
   pub refusals_depth :
-      (is_value : R → Type 0) (tree : Tree R) (n : ℕ) → IsTree (IsKept refuses is_value) tree
+      (is_value : R → Type 0) (tree : Tree R) (n : ℕ) → IsTree (IsRowKept refuses is_value) tree
       → ((path : Path) (question : Q) → TableRefuses refuses tree path question → length path ≤ n) → tree_depth tree ≤ n
-  refusals_depth is_value tree n h short = depth_rows (IsKept refuses is_value) n tree h (λ path row e.
+  refusals_depth is_value tree n h short = depth_rows (IsRowKept refuses is_value) n tree h (λ path row e.
       ⊎_elim
-      (λ (far : n < length path). absurd ((kept_at (IsKept refuses is_value) tree path row h e).1 (λ question r.
+      (λ (far : n < length path). absurd ((kept_at (IsRowKept refuses is_value) tree path row h e).1 (λ question r.
       let here : TableRefuses refuses tree path question = rw e r in
       let d = short path question here in absurd (omega arith))))
       (λ (near : length path ≤ n). near)
@@ -146,7 +146,7 @@ module _ {R Q : Type 0} (refuses : R → Q → Type 0) where
 
   -- the met table is not deeper than both
   pub met_depth :
-      (is_value : R → Type 0) (a b met : Tree R) (n : ℕ) → IsTree (IsKept refuses is_value) met → IsMet refuses a b met
+      (is_value : R → Type 0) (a b met : Tree R) (n : ℕ) → IsTree (IsRowKept refuses is_value) met → IsMet refuses a b met
       → tree_depth a ≤ n → tree_depth b ≤ n → tree_depth met ≤ n
   met_depth is_value a b met n h m p q = refusals_depth is_value met n h (λ path question r.
       ⊎_elim (λ k. let d = refused_depth a path question k in omega arith) (λ k. let d = refused_depth b path question k in omega arith) ((m path question).0 r))

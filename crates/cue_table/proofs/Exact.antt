@@ -7,8 +7,8 @@ use Rattle.cue_lattice.specs.Path.{Step, label, index, step_cmp, Path}
 use Rattle.cue_lattice.specs.Pair.{IsExact}
 use Rattle.cue_table.specs.Tree.{Tree, node, Children, none, child, Rest, no_rest, onward, if_equal, find, find_with, behind_last}
 use Rattle.cue_table.specs.Refuses.{RowRefuses, TableRefuses}
-use Rattle.cue_table.specs.Form.{IsBelowAll, IsTaken, IsRow, IsTree, AreBranches, AreWithin, Differs, IsRestOf, IsKept}
-use Rattle.cue_table.specs.Inner.Form.{Rise}
+use Rattle.cue_table.specs.Form.{IsStepBelowAll, IsTreeTaken, IsTableRow, IsTree, AreBranches, AreWithinDepth, DiffersFromRest, IsRestOf, IsRowKept}
+use Rattle.cue_table.specs.Inner.Form.{StepsRise}
 use Rattle.cue_table.proofs.Order.{equal_steps}
 use Rattle.cue_table.proofs.Finding.{reverse_cmp, branches_rise}
 use Rattle.cue_table.proofs.Branches.{find_first, find_before, find_past, find_below, below_all, find_rest, find_fixed, FoundRefuses, not_silent}
@@ -23,7 +23,7 @@ module _ {R : Type 0} where
 
   -- the branches after the first of two lists that begin alike
   others_same :
-      (s : Step) (t v : Tree R) (cs ds : Children R) → IsBelowAll s cs → IsBelowAll s ds → ((x : Step) → find x (child s t cs) ≡ find x (child s v ds))
+      (s : Step) (t v : Tree R) (cs ds : Children R) → IsStepBelowAll s cs → IsStepBelowAll s ds → ((x : Step) → find x (child s t cs) ≡ find x (child s v ds))
       → (x : Step) (o : Ordering) → step_cmp x s ≡ o → find x cs ≡ find x ds
   others_same s t v cs ds h k same x Less e = sym (find_before x s t cs e) ∙ same x ∙ find_before x s v ds e
   others_same s t v cs ds h k same x Greater e = sym (find_past x s t cs e) ∙ same x ∙ find_past x s v ds e
@@ -31,7 +31,7 @@ module _ {R : Type 0} where
       ap (λ y. find y cs) (equal_steps x s e) ∙ find_below s cs h ∙ sym (find_below s ds k) ∙ sym (ap (λ y. find y ds) (equal_steps x s e))
 
   equal_step :
-      (s : Step) (t : Tree R) (cs : Children R) (u : Step) (v : Tree R) (ds : Children R) → Rise (child s t cs) → Rise (child u v ds)
+      (s : Step) (t : Tree R) (cs : Children R) (u : Step) (v : Tree R) (ds : Children R) → StepsRise (child s t cs) → StepsRise (child u v ds)
       → ((x : Step) → find x (child s t cs) ≡ find x (child u v ds)) → (((x : Step) → find x cs ≡ find x ds) → cs ≡ ds)
       → (o : Ordering) → step_cmp s u ≡ o → child s t cs ≡ child u v ds
   equal_step s t cs u v ds h k same others Less e =
@@ -42,13 +42,13 @@ module _ {R : Type 0} where
   equal_step s t cs u v ds h k same others Equal e =
       let steps : s ≡ u = equal_steps s u e in
       let alike : (x : Step) → find x (child s t cs) ≡ find x (child s v ds) = subst (λ y. (x : Step) → find x (child s t cs) ≡ find x (child y v ds)) (sym steps) same in
-      let above : IsBelowAll s ds = subst (λ y. IsBelowAll y ds) (sym steps) k.0 in
+      let above : IsStepBelowAll s ds = subst (λ y. IsStepBelowAll y ds) (sym steps) k.0 in
       let branch : t ≡ v = ap (or_else t) (sym (find_first s t cs) ∙ alike s ∙ find_first s v ds) in
       let left : cs ≡ ds = others (λ x. others_same s t v cs ds h.0 above alike x (step_cmp x s) refl) in
       λ i. child (steps i) (branch i) (left i)
 
   -- lists of branches that find the same are the same
-  pub equal_children : (cs ds : Children R) → Rise cs → Rise ds → ((x : Step) → find x cs ≡ find x ds) → cs ≡ ds
+  pub equal_children : (cs ds : Children R) → StepsRise cs → StepsRise ds → ((x : Step) → find x cs ≡ find x ds) → cs ≡ ds
   equal_children none none h k same = refl
   equal_children none (child u v ds) h k same = absurd (some_none v (find u (child u v ds)) (find_first u v ds) (sym (same u)))
   equal_children (child s t cs) none h k same = absurd (some_none t (find s (child s t cs)) (find_first s t cs) (same s))
@@ -56,7 +56,7 @@ module _ {R : Type 0} where
       equal_step s t cs u v ds h k same (λ alike. equal_children cs ds h.1 k.1 alike) (step_cmp s u) refl
 
   -- where all elements stand below an index, none is found from there on
-  pub none_within : (n i : ℕ) (cs : Children R) → AreWithin n cs → n ≤ i → find (index i) cs ≡ None
+  pub none_within : (n i : ℕ) (cs : Children R) → AreWithinDepth n cs → n ≤ i → find (index i) cs ≡ None
   none_within n i none h l = refl
   none_within n i (child (label text) t cs) h l = none_within n i cs h l
   none_within n i (child (index j) t cs) h l = by (step_cmp (index i) (index j)) refl (none_within n i cs h.1 l)
@@ -67,7 +67,7 @@ module _ {R : Type 0} where
       by Equal e k = let same : index i ≡ index j = equal_steps (index i) (index j) e in let number : i ≡ j = cc in absurd (omega (arith, h.0))
 
   -- all elements stand below the index behind the last one
-  pub within_last : (n : ℕ) (cs : Children R) → behind_last cs ≤ n → AreWithin n cs
+  pub within_last : (n : ℕ) (cs : Children R) → behind_last cs ≤ n → AreWithinDepth n cs
   within_last n none l = tt
   within_last n (child (label text) t cs) l = within_last n cs l
   within_last n (child (index j) t cs) l = (omega arith, within_last n cs (omega arith))
@@ -82,13 +82,13 @@ module _ {R : Type 0} where
       some_none v (find (index far) cs) (same (index far) ∙ find_rest n v ds far (omega arith)) (none_within far far cs (within_last far cs (omega arith)) (omega arith))
 
   -- rests that begin at different indexes differ in the element before the later one
-  no_later : (m n : ℕ) (t v : Tree R) (cs ds : Children R) → Differs n v ds → SameSteps cs (onward m t) ds (onward n v) → t ≡ v → m < n → ⊥
+  no_later : (m n : ℕ) (t v : Tree R) (cs ds : Children R) → DiffersFromRest n v ds → SameSteps cs (onward m t) ds (onward n v) → t ≡ v → m < n → ⊥
   no_later m zero t v cs ds d same e l = absurd (omega arith)
   no_later m (suc i) t v cs ds d same e l =
       d (sym (find_fixed (suc i) v ds i (omega arith)) ∙ sym (same (index i)) ∙ find_rest m t cs i (omega arith) ∙ ap Some e)
 
   same_find :
-      (m n : ℕ) (t v : Tree R) (cs ds : Children R) → m ≡ n → AreWithin m cs → AreWithin n ds
+      (m n : ℕ) (t v : Tree R) (cs ds : Children R) → m ≡ n → AreWithinDepth m cs → AreWithinDepth n ds
       → SameSteps cs (onward m t) ds (onward n v) → (step : Step) → find step cs ≡ find step ds
   same_find m n t v cs ds e h k same (label text) = same (label text)
   same_find m n t v cs ds e h k same (index i) = elim (cases_lt i m) [
@@ -117,7 +117,7 @@ module _ {R : Type 0} where
 
 module _ {R Q : Type 0} (refuses : R → Q → Type 0) (is_value : R → Type 0) where
   abbrev Kept : R → Type 0
-  Kept = IsKept refuses is_value
+  Kept = IsRowKept refuses is_value
 
   abbrev SameRefusals : Tree R → Tree R → Type 0
   SameRefusals a b = (path : Path) (question : Q) → TableRefuses refuses a path question ↔ TableRefuses refuses b path question
@@ -128,9 +128,9 @@ module _ {R Q : Type 0} (refuses : R → Q → Type 0) (is_value : R → Type 0)
   -- what may be found: a tree in form that is not empty
   abbrev pub IsFound : Option (Tree R) → Type 0
   IsFound None = Unit {0}
-  IsFound (Some tree) = IsTaken tree × IsTree Kept tree
+  IsFound (Some tree) = IsTreeTaken tree × IsTree Kept tree
 
-  found_by : (o : Ordering) (t : Tree R) (other : Option (Tree R)) → IsTaken t × IsTree Kept t → IsFound other → IsFound (if_equal o t other)
+  found_by : (o : Ordering) (t : Tree R) (other : Option (Tree R)) → IsTreeTaken t × IsTree Kept t → IsFound other → IsFound (if_equal o t other)
   found_by Less t other h k = k
   found_by Equal t other h k = h
   found_by Greater t other h k = k
@@ -139,7 +139,7 @@ module _ {R Q : Type 0} (refuses : R → Q → Type 0) (is_value : R → Type 0)
   found s none h = tt
   found s (child u t cs) h = found_by (step_cmp s u) t (find s cs) (h.1, h.2) (found s cs h.3)
 
-  found_if : (b : Bool) (own : Option (Tree R)) (t : Tree R) → IsFound own → IsTaken t × IsTree Kept t → IsFound (if b then own else Some t)
+  found_if : (b : Bool) (own : Option (Tree R)) (t : Tree R) → IsFound own → IsTreeTaken t × IsTree Kept t → IsFound (if b then own else Some t)
   found_if true own t h k = h
   found_if false own t h k = k
 
@@ -149,7 +149,7 @@ module _ {R Q : Type 0} (refuses : R → Q → Type 0) (is_value : R → Type 0)
   found_with (onward n t) (index i) cs h k = found_if (nat_lt i n) (find (index i) cs) t (found (index i) cs h) (k.2, k.3)
 
   module _ (exact : IsExact refuses is_value) where
-    exact_row : (q r : Option R) → IsRow Kept q → IsRow Kept r → ((question : Q) → RowRefuses refuses q question ↔ RowRefuses refuses r question) → q ≡ r
+    exact_row : (q r : Option R) → IsTableRow Kept q → IsTableRow Kept r → ((question : Q) → RowRefuses refuses q question ↔ RowRefuses refuses r question) → q ≡ r
     exact_row None None h k same = refl
     exact_row (Some q) (Some r) h k same = ap Some (exact q r h.0 k.0 same)
     exact_row None (Some r) h k same = absurd (k.1 (λ question. (same question).1))

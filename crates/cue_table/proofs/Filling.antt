@@ -2,7 +2,7 @@
 use Rattle.std.proofs.Common.{◌≡◌, ℕ, zero, suc, ◌+◌, ◌-◌, ◌≤◌, ◌<◌, List, [], ◌∷◌, ◌++◌, append_assoc, length, take, drop, take-add, length-drop, refl, sym, ap, subst, ◌∙◌, arith}
 use Rattle.std.proofs.lemmas.List.{drop-drop}
 use Rattle.cue_table.specs.declared.changes.Change.{Change}
-use Rattle.cue_table.specs.Inner.Changes.{Fit, added, behind, merged, more, over}
+use Rattle.cue_table.specs.Inner.Changes.{ChangesFit, total_added, branches_behind, carry_out_changes, added_count, replaced_count}
 use Rattle.cue_table.specs.Inner.Child.{Child}
 
 take_whole : {X : Type 0} (xs : List X) → take (length xs) xs ≡ xs
@@ -17,21 +17,21 @@ take_drop (suc n) (x ∷ xs) = ap (λ ys. x ∷ ys) (take_drop n xs)
 module _ {R Q : Type 0} where
   -- What is made so far, and what the changes that are left make of the branches that are left, is the whole.
   pub record Fills (old : List (Child R)) (changes : List (Change R Q)) (made rest : List (Child R)) (others : List (Change R Q)) (len cap : ℕ) : Type 0 where
-    pub whole : made ++ merged others rest ≡ merged changes old
-    pub fit : Fit others rest
+    pub whole : made ++ carry_out_changes others rest ≡ carry_out_changes changes old
+    pub fit : ChangesFit others rest
     pub room : len + length rest + length others ≤ cap
 
   pub fills_start :
-      (old made rest : List (Child R)) (changes others : List (Change R Q)) (len cap : ℕ) → made ≡ [] → rest ≡ old → others ≡ changes → Fit changes old → len + length old + length changes ≤ cap
+      (old made rest : List (Child R)) (changes others : List (Change R Q)) (len cap : ℕ) → made ≡ [] → rest ≡ old → others ≡ changes → ChangesFit changes old → len + length old + length changes ≤ cap
       → Fills old changes made rest others len cap
   fills_start old made rest changes others len cap e f n h r =
       subst (λ xs. Fills old changes made xs others len cap) (sym f)
-      (subst (λ xs. Fills old changes made old xs len cap) (sym n) (record { whole = ap (λ xs. xs ++ merged changes old) e; fit = h; room = r }))
+      (subst (λ xs. Fills old changes made old xs len cap) (sym n) (record { whole = ap (λ xs. xs ++ carry_out_changes changes old) e; fit = h; room = r }))
 
   -- the first of the changes that are left, as the code has them
   pub fills_next :
       (old made rest : List (Child R)) (changes all others : List (Change R Q)) (c : Change R Q) (len cap : ℕ) → Fills old changes made rest all len cap → all ≡ c ∷ others
-      → (c.kept + over c.replaces ≤ length rest) × (len + length rest + length others + 1 ≤ cap)
+      → (c.kept + replaced_count c.replaces ≤ length rest) × (len + length rest + length others + 1 ≤ cap)
   fills_next old made rest changes all others c len cap f e =
       let g = subst (λ xs. Fills old changes made rest xs len cap) e f in
       let fit = g.fit in
@@ -41,54 +41,54 @@ module _ {R Q : Type 0} where
   -- a change more
   pub fills_more :
       (old made rest made' rest' : List (Child R)) (changes all others : List (Change R Q)) (c : Change R Q) (len len' cap cap' : ℕ) → Fills old changes made rest all len cap → all ≡ c ∷ others
-      → made' ≡ (made ++ take c.kept rest) ++ c.child ∷ [] → rest' ≡ behind c rest → len' ≤ len + c.kept + 1 → cap' ≡ cap → Fills old changes made' rest' others len' cap'
+      → made' ≡ (made ++ take c.kept rest) ++ c.child ∷ [] → rest' ≡ branches_behind c rest → len' ≤ len + c.kept + 1 → cap' ≡ cap → Fills old changes made' rest' others len' cap'
   fills_more old made rest made' rest' changes all others c len len' cap cap' f e m r l k =
       let g = subst (λ xs. Fills old changes made rest xs len cap) e f in
       let fit = g.fit in
       let room = g.room in
       let first = length-drop c.kept rest in
-      let second = length-drop (over c.replaces) (drop c.kept rest) in
+      let second = length-drop (replaced_count c.replaces) (drop c.kept rest) in
       let left = ap length r in
       record {
-        whole = ap (λ xs. xs ++ merged others rest') m ∙ ap (λ xs. ((made ++ take c.kept rest) ++ c.child ∷ []) ++ merged others xs) r
-            ∙ append_assoc (made ++ take c.kept rest) (c.child ∷ []) (merged others (behind c rest)) ∙ append_assoc made (take c.kept rest) (c.child ∷ merged others (behind c rest)) ∙ g.whole;
-        fit = subst (Fit others) (sym r) fit.1;
+        whole = ap (λ xs. xs ++ carry_out_changes others rest') m ∙ ap (λ xs. ((made ++ take c.kept rest) ++ c.child ∷ []) ++ carry_out_changes others xs) r
+            ∙ append_assoc (made ++ take c.kept rest) (c.child ∷ []) (carry_out_changes others (branches_behind c rest)) ∙ append_assoc made (take c.kept rest) (c.child ∷ carry_out_changes others (branches_behind c rest)) ∙ g.whole;
+        fit = subst (ChangesFit others) (sym r) fit.1;
         room = omega (arith, fit.0, room, first, second, left, l, k);
       }
 
   -- no change is left
   pub fills_end :
       (old made rest made' : List (Child R)) (changes others : List (Change R Q)) (len cap count : ℕ) → Fills old changes made rest others len cap → length others ≡ 0
-      → count ≡ length rest → made' ≡ made ++ take count rest → made' ≡ merged changes old
+      → count ≡ length rest → made' ≡ made ++ take count rest → made' ≡ carry_out_changes changes old
   fills_end old made rest made' changes [] len cap count f z e m = m ∙ ap (λ n. made ++ take n rest) e ∙ ap (λ xs. made ++ xs) (take_whole rest) ∙ f.whole
   fills_end old made rest made' changes (c ∷ others) len cap count f z e m = absurd (omega arith)
 
   -- how many changes add a branch, up to one and from there on
   pub added_more :
       (changes : List (Change R Q)) (i count count' : ℕ) (c : Change R Q) (rest : List (Change R Q)) → drop i changes ≡ c ∷ rest
-      → count + added (drop i changes) ≡ added changes → count' ≡ count + more c.replaces → count' + added (drop (i + 1) changes) ≡ added changes
+      → count + total_added (drop i changes) ≡ total_added changes → count' ≡ count + added_count c.replaces → count' + total_added (drop (i + 1) changes) ≡ total_added changes
   added_more changes i count count' c rest e h k =
-      let one : added (drop i changes) ≡ more c.replaces + added rest = ap added e in
+      let one : total_added (drop i changes) ≡ added_count c.replaces + total_added rest = ap total_added e in
       let tail : drop (i + 1) changes ≡ rest = sym (drop-drop 1 i changes) ∙ ap (drop 1) e in
-      let same = ap added tail in
+      let same = ap total_added tail in
       omega (arith, h, k, one, same)
 
   -- What is changed up to a place, and what the changes that are left make of the branches from there, is the whole.
   pub record Puts (old : List (Child R)) (changes : List (Change R Q)) (now : List (Child R)) (others : List (Change R Q)) (at len cap : ℕ) : Type 0 where
-    pub whole : take at now ++ merged others (drop at now) ≡ merged changes old
+    pub whole : take at now ++ carry_out_changes others (drop at now) ≡ carry_out_changes changes old
     pub inside : at ≤ length now
-    pub fit : Fit others (drop at now)
-    pub room : len + added others ≤ cap
+    pub fit : ChangesFit others (drop at now)
+    pub room : len + total_added others ≤ cap
 
   pub puts_start :
-      (old : List (Child R)) (changes others : List (Change R Q)) (len cap : ℕ) → others ≡ changes → Fit changes old → len + added changes ≤ cap → Puts old changes old others 0 len cap
+      (old : List (Child R)) (changes others : List (Change R Q)) (len cap : ℕ) → others ≡ changes → ChangesFit changes old → len + total_added changes ≤ cap → Puts old changes old others 0 len cap
   puts_start old changes others len cap e h r =
       subst (λ xs. Puts old changes old xs 0 len cap) (sym e) (record { whole = refl; inside = omega arith; fit = h; room = r })
 
   -- the next change is at a place of the list, for which there is room
   pub puts_next :
       (old now : List (Child R)) (changes all others : List (Change R Q)) (c : Change R Q) (at len cap : ℕ) → Puts old changes now all at len cap → all ≡ c ∷ others
-      → (at + c.kept + over c.replaces ≤ length now) × (len + more c.replaces ≤ cap)
+      → (at + c.kept + replaced_count c.replaces ≤ length now) × (len + added_count c.replaces ≤ cap)
   puts_next old now changes all others c at len cap f e =
       let g = subst (λ xs. Puts old changes now xs at len cap) e f in
       let fit = g.fit in
@@ -96,8 +96,8 @@ module _ {R Q : Type 0} where
 
   pub puts_more :
       (old now later : List (Child R)) (changes all others : List (Change R Q)) (c : Change R Q) (at len len' cap cap' : ℕ) → Puts old changes now all at len cap → all ≡ c ∷ others
-      → take (at + c.kept) later ≡ take (at + c.kept) now → drop (at + c.kept) later ≡ c.child ∷ drop (over c.replaces) (drop (at + c.kept) now)
-      → len' ≡ len + more c.replaces → cap' ≡ cap → Puts old changes later others (at + c.kept + 1) len' cap'
+      → take (at + c.kept) later ≡ take (at + c.kept) now → drop (at + c.kept) later ≡ c.child ∷ drop (replaced_count c.replaces) (drop (at + c.kept) now)
+      → len' ≡ len + added_count c.replaces → cap' ≡ cap → Puts old changes later others (at + c.kept + 1) len' cap'
   puts_more old now later changes all others c at len len' cap cap' f e before from l k =
       let g = subst (λ xs. Puts old changes now xs at len cap) e f in
       let fit = g.fit in
@@ -106,20 +106,20 @@ module _ {R Q : Type 0} where
       let d = c.child in
       let a : take (p + 1) later ≡ (take at now ++ take n (drop at now)) ++ d ∷ [] =
       take-add p 1 later ∙ ap (λ xs. xs ++ take 1 (drop p later)) (before ∙ take-add at n now) ∙ ap (λ xs. (take at now ++ take n (drop at now)) ++ take 1 xs) from in
-      let b : drop (p + 1) later ≡ behind c (drop at now) =
-      sym (drop-drop 1 p later) ∙ ap (drop 1) from ∙ ap (drop (over c.replaces)) (sym (drop-drop n at now)) in
+      let b : drop (p + 1) later ≡ branches_behind c (drop at now) =
+      sym (drop-drop 1 p later) ∙ ap (drop 1) from ∙ ap (drop (replaced_count c.replaces)) (sym (drop-drop n at now)) in
       let long = ap length from in
       record {
-        whole = ap (λ xs. xs ++ merged others (drop (p + 1) later)) a ∙ ap (λ xs. ((take at now ++ take n (drop at now)) ++ d ∷ []) ++ merged others xs) b
-            ∙ append_assoc (take at now ++ take n (drop at now)) (d ∷ []) (merged others (behind c (drop at now)))
-            ∙ append_assoc (take at now) (take n (drop at now)) (d ∷ merged others (behind c (drop at now))) ∙ g.whole;
+        whole = ap (λ xs. xs ++ carry_out_changes others (drop (p + 1) later)) a ∙ ap (λ xs. ((take at now ++ take n (drop at now)) ++ d ∷ []) ++ carry_out_changes others xs) b
+            ∙ append_assoc (take at now ++ take n (drop at now)) (d ∷ []) (carry_out_changes others (branches_behind c (drop at now)))
+            ∙ append_assoc (take at now) (take n (drop at now)) (d ∷ carry_out_changes others (branches_behind c (drop at now))) ∙ g.whole;
         inside = omega (arith, long, length-drop p later);
-        fit = subst (Fit others) (sym b) fit.1;
+        fit = subst (ChangesFit others) (sym b) fit.1;
         room = omega (arith, g.room, l, k);
       }
 
   pub puts_end :
-      (old now : List (Child R)) (changes others : List (Change R Q)) (at len cap : ℕ) → Puts old changes now others at len cap → length others ≡ 0 → now ≡ merged changes old
+      (old now : List (Child R)) (changes others : List (Change R Q)) (at len cap : ℕ) → Puts old changes now others at len cap → length others ≡ 0 → now ≡ carry_out_changes changes old
   puts_end old now changes [] at len cap f z = sym (take_drop at now) ∙ f.whole
   puts_end old now changes (c ∷ others) at len cap f z = absurd (omega arith)
 

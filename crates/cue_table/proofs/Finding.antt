@@ -11,10 +11,10 @@ use Rattle.cue_lattice.specs.Path.{Step, label, index, step_cmp}
 use Rattle.cue_row.specs.Steps.{step_of}
 use Rattle.cue_row.specs.declared.step.Step as steps
 use Rattle.cue_table.specs.Tree.{Tree, node, Children, none, child, Rest, no_rest, onward, below, find, find_with, step_into, if_equal, branch_at}
-use Rattle.cue_table.specs.Form.{IsBelowAll, IsTaken, IsTree, AreBranches, IsRestOf}
-use Rattle.cue_table.specs.Inner.Form.{Rise}
+use Rattle.cue_table.specs.Form.{IsStepBelowAll, IsTreeTaken, IsTree, AreBranches, IsRestOf}
+use Rattle.cue_table.specs.Inner.Form.{StepsRise}
 use Rattle.cue_table.specs.Inner.Place.{AreBefore, IsPlace, IsGap}
-use Rattle.cue_table.specs.Inner.Parts.{past}
+use Rattle.cue_table.specs.Inner.Parts.{branches_past}
 use Rattle.cue_table.specs.Inner.View.{branches}
 use Rattle.cue_table.specs.Inner.Child.{Child}
 use Rattle.cue_table.proofs.Order.{step_total, equal_steps}
@@ -33,7 +33,7 @@ same_step x = by (step_cmp x x) refl
     by Greater e = let other = reverse_cmp x x Greater e in cc
 
 -- the steps of branches rise where the branches are in form
-pub branches_rise : {R : Type 0} (P : R → Type 0) (children : Children R) → AreBranches P children → Rise children
+pub branches_rise : {R : Type 0} (P : R → Type 0) (children : Children R) → AreBranches P children → StepsRise children
 branches_rise P none h = tt
 branches_rise P (child step tree children) h = (h.0, branches_rise P children h.3)
 
@@ -59,12 +59,12 @@ module _ {R : Type 0} where
   rank step c = ordering_index (step_cmp (step_of c.step) step)
 
   -- what is below all is below each
-  pub at_or_below : (x : Step) (cs : List (Child R)) (k : ℕ) (d : Child R) → IsBelowAll x (branches cs) → k < length cs → step_cmp x (step_of (get_or cs k d).step) ≡ Less
+  pub at_or_below : (x : Step) (cs : List (Child R)) (k : ℕ) (d : Child R) → IsStepBelowAll x (branches cs) → k < length cs → step_cmp x (step_of (get_or cs k d).step) ≡ Less
   at_or_below x [] k d b l = absurd (omega arith)
   at_or_below x (c ∷ cs) zero d b l = b.0
   at_or_below x (c ∷ cs) (suc k) d b l = at_or_below x cs k d b.1 (omega arith)
 
-  ranks_ascend : (cs : List (Child R)) (step : Step) → Rise (branches cs) → IsNonDecreasingBy (rank step) cs
+  ranks_ascend : (cs : List (Child R)) (step : Step) → StepsRise (branches cs) → IsNonDecreasingBy (rank step) cs
   ranks_ascend [] step a i j d h l = absurd (omega arith)
   ranks_ascend (c ∷ cs) step a zero zero d h l = omega arith
   ranks_ascend (c ∷ cs) step a zero (suc j) d h l =
@@ -73,7 +73,7 @@ module _ {R : Type 0} where
   ranks_ascend (c ∷ cs) step a (suc i) (suc j) d h l = ranks_ascend cs step a.1 i j d (omega arith) (omega arith)
 
   -- a branch is found at its step
-  pub find_at : (cs : List (Child R)) (step : Step) (k : ℕ) (d : Child R) → Rise (branches cs) → k < length cs → step ≡ step_of (get_or cs k d).step → find step (branches cs) ≡ Some (get_or cs k d).node
+  pub find_at : (cs : List (Child R)) (step : Step) (k : ℕ) (d : Child R) → StepsRise (branches cs) → k < length cs → step ≡ step_of (get_or cs k d).step → find step (branches cs) ≡ Some (get_or cs k d).node
   find_at [] step k d a l e = absurd (omega arith)
   find_at (c ∷ cs) step zero d a l e =
       ap (λ o. if_equal o c.node (find step (branches cs))) (subst (λ s. step_cmp step s ≡ Equal) e (same_step step))
@@ -91,7 +91,7 @@ module _ {R : Type 0} where
       (find_none cs step (λ k d l e. h (suc k) d (omega arith) e))
 
   -- what stands before a branch is before its step
-  before_found : (cs : List (Child R)) (step : Step) (k : ℕ) → Rise (branches cs) → k < length cs → ((d : Child R) → step_of (get_or cs k d).step ≡ step) → AreBefore k step (branches cs)
+  before_found : (cs : List (Child R)) (step : Step) (k : ℕ) → StepsRise (branches cs) → k < length cs → ((d : Child R) → step_of (get_or cs k d).step ≡ step) → AreBefore k step (branches cs)
   before_found cs step zero a l e = tt
   before_found [] step (suc k) a l e = absurd (omega arith)
   before_found (c ∷ cs) step (suc k) a l e = (
@@ -106,7 +106,7 @@ module _ {R : Type 0} where
   before_gap (c ∷ cs) step (suc n) l h = (h 0 c (omega arith), before_gap cs step n (omega arith) (λ k d less. h (suc k) d (omega arith)))
 
   -- what is above a step by place is above it
-  after_gap : (cs : List (Child R)) (step : Step) (n : ℕ) → ((k : ℕ) (d : Child R) → n ≤ k → k < length cs → step_cmp (step_of (get_or cs k d).step) step ≡ Greater) → IsBelowAll step (past n (branches cs))
+  after_gap : (cs : List (Child R)) (step : Step) (n : ℕ) → ((k : ℕ) (d : Child R) → n ≤ k → k < length cs → step_cmp (step_of (get_or cs k d).step) step ≡ Greater) → IsStepBelowAll step (branches_past n (branches cs))
   after_gap [] step zero h = tt
   after_gap (c ∷ cs) step zero h = (
     reverse_cmp (step_of c.step) step Greater (h 0 c (omega arith) (omega arith)),
@@ -117,7 +117,7 @@ module _ {R : Type 0} where
 
   -- what a binary search by the steps answers
   pub place_searched :
-      (cs : List (Child R)) (step : Step) (r : Result ℕ ℕ) → Rise (branches cs) → IsSearchInRange r (length cs)
+      (cs : List (Child R)) (step : Step) (r : Result ℕ ℕ) → StepsRise (branches cs) → IsSearchInRange r (length cs)
       → IsBinarySearchResult (λ c. step_cmp (step_of c.step) step) cs r
       → MatchResult r (IsPlace cs step) (IsGap cs step)
   place_searched cs step (Ok at) a bound found =
@@ -147,14 +147,14 @@ found_here P Equal here other tree h k e = let same : here ≡ tree = cc in subs
 found_here P Greater here other tree h k e = k e
 
 -- where a branch is found, it is in form and not empty
-pub find_form : {R : Type 0} (P : R → Type 0) (step : Step) (children : Children R) (tree : Tree R) → AreBranches P children → find step children ≡ Some tree → IsTaken tree × IsTree P tree
+pub find_form : {R : Type 0} (P : R → Type 0) (step : Step) (children : Children R) (tree : Tree R) → AreBranches P children → find step children ≡ Some tree → IsTreeTaken tree × IsTree P tree
 find_form P step none tree h e = cc
 find_form P step (child next here children) tree h e =
-    found_here (λ t. IsTaken t × IsTree P t) (step_cmp step next) here (find step children) tree (h.1, h.2)
+    found_here (λ t. IsTreeTaken t × IsTree P t) (step_cmp step next) here (find step children) tree (h.1, h.2)
     (λ f. find_form P step children tree h.3 f) e
 
 -- the steps of the branches rise where the tree is in form
-pub tree_rises : {R : Type 0} (P : R → Type 0) (tree : Tree R) → IsTree P tree → Rise (below tree)
+pub tree_rises : {R : Type 0} (P : R → Type 0) (tree : Tree R) → IsTree P tree → StepsRise (below tree)
 tree_rises P (node row children rest) h = branches_rise P children h.1
 
 -- what is found among the elements of a list or is its rest
@@ -162,14 +162,14 @@ found_else : {R : Type 0} (P : Tree R → Type 0) (b : Bool) (own : Option (Tree
 found_else P true own rest next h k e = h e
 found_else P false own rest next h k e = let same : rest ≡ next = cc in subst P same k
 
-found_with : {R : Type 0} (P : R → Type 0) (rest : Rest R) (step : Step) (children : Children R) (next : Tree R) → AreBranches P children → IsRestOf P children rest → find_with rest step children ≡ Some next → IsTaken next × IsTree P next
+found_with : {R : Type 0} (P : R → Type 0) (rest : Rest R) (step : Step) (children : Children R) (next : Tree R) → AreBranches P children → IsRestOf P children rest → find_with rest step children ≡ Some next → IsTreeTaken next × IsTree P next
 found_with P no_rest step children next h k e = find_form P step children next h e
 found_with P (onward n tree) (label text) children next h k e = find_form P (label text) children next h e
 found_with P (onward n tree) (index i) children next h k e =
-    found_else (λ t. IsTaken t × IsTree P t) (nat_lt i n) (find (index i) children) tree next (λ f. find_form P (index i) children next h f) (k.2, k.3) e
+    found_else (λ t. IsTreeTaken t × IsTree P t) (nat_lt i n) (find (index i) children) tree next (λ f. find_form P (index i) children next h f) (k.2, k.3) e
 
 -- where a branch of a tree in form is found, it is in form and not empty
-pub found_form : {R : Type 0} (P : R → Type 0) (step : Step) (tree next : Tree R) → IsTree P tree → step_into tree step ≡ Some next → IsTaken next × IsTree P next
+pub found_form : {R : Type 0} (P : R → Type 0) (step : Step) (tree next : Tree R) → IsTree P tree → step_into tree step ≡ Some next → IsTreeTaken next × IsTree P next
 found_form P step (node row children rest) next h e = found_with P rest step children next h.1 h.2 e
 
 -- one step further along a path

@@ -8,10 +8,10 @@ use Rattle.cue_lattice.specs.OneOf.{OneOf}
 use Rattle.cue_lattice.specs.Path.{Step, step_cmp, Path}
 use Rattle.cue_row.specs.Steps.{step_of}
 use Rattle.cue_table.specs.Inner.Child.{Child}
-use Rattle.cue_table.specs.Inner.Given.{given_of, hung}
+use Rattle.cue_table.specs.Inner.Given.{given_of, tree_of_branch}
 use Rattle.cue_table.specs.Tree.{Tree, node, Children, Rest, no_rest, empty, find}
-use Rattle.cue_table.specs.Form.{IsBelowAll, AreBranches}
-use Rattle.cue_table.specs.Many.{IsOfBranches, IsUnified}
+use Rattle.cue_table.specs.Form.{IsStepBelowAll, AreBranches}
+use Rattle.cue_table.specs.Many.{IsOfBranches, AreUnified}
 use Rattle.cue_table.specs.Meet.{IsMet, IsAdded}
 use Rattle.cue_table.specs.Refuses.{RowRefuses, TableRefuses}
 use Rattle.cue_table.specs.Inner.View.{branches}
@@ -22,7 +22,7 @@ use Rattle.cue_table.proofs.Order.{equal_steps}
 
 module _ {R : Type 0} where
   -- a step before all branches is before the last
-  before_last : (step : Step) (cs : List (Child R)) (c : Child R) → IsBelowAll step (branches (cs ++ c ∷ [])) → step_cmp step (step_of c.step) ≡ Less
+  before_last : (step : Step) (cs : List (Child R)) (c : Child R) → IsStepBelowAll step (branches (cs ++ c ∷ [])) → step_cmp step (step_of c.step) ≡ Less
   before_last step [] c h = h.0
   before_last step (x ∷ cs) c h = before_last step cs c h.1
 
@@ -66,7 +66,7 @@ module _ {R S : Type 0} (refuses : R → S → Type 0) where
       found_behind x cs c at path question (before_last (step_of x.step) cs c h.0) (found_more P cs c at path question h.3) (step_cmp at (step_of x.step)) refl
 
   -- branches with one more behind are met with that one
-  pub hung_met : (P : R → Type 0) (cs all : List (Child R)) (c : Child R) → all ≡ cs ++ c ∷ [] → AreBranches P (branches all) → IsMet refuses (node None (branches cs) no_rest) (hung c) (node None (branches all) no_rest)
+  pub hung_met : (P : R → Type 0) (cs all : List (Child R)) (c : Child R) → all ≡ cs ++ c ∷ [] → AreBranches P (branches all) → IsMet refuses (node None (branches cs) no_rest) (tree_of_branch c) (node None (branches all) no_rest)
   hung_met P cs all c e h [] question = (λ g. inl g, ⊎_elim (λ g. g) (λ g. g))
   hung_met P cs all c e h (at ∷ path) question =
       let more = found_more P cs c at path question (subst (λ xs. AreBranches P (branches xs)) e h) in
@@ -84,15 +84,15 @@ is_absent f (Some x) tree is_none e h k = cc
 -- ---- a list of branches, of which some hang already
 module _ {R Q : Type 0} (refuses : R → Q → Type 0) where
   -- what hangs already, what is kept beside, and what is left refuse together what all do
-  abbrev pub Hangs : Tree R → List (Tree R) → List (Child R) → List (Child R) → Type 0
-  Hangs front others rest all =
-      (path : Path) (question : Q) → (TableRefuses refuses front path question ⊎ OneOf (λ table. TableRefuses refuses table path question) (others ++ map hung rest))
-      ↔ OneOf (λ table. TableRefuses refuses table path question) (map hung all)
+  abbrev pub RefuseTogether : Tree R → List (Tree R) → List (Child R) → List (Child R) → Type 0
+  RefuseTogether front others rest all =
+      (path : Path) (question : Q) → (TableRefuses refuses front path question ⊎ OneOf (λ table. TableRefuses refuses table path question) (others ++ map tree_of_branch rest))
+      ↔ OneOf (λ table. TableRefuses refuses table path question) (map tree_of_branch all)
 
-  pub hangs_none : (front : Tree R) (others : List (Tree R)) (rest all : List (Child R)) → front ≡ empty → others ≡ [] → rest ≡ all → Hangs front others rest all
+  pub hangs_none : (front : Tree R) (others : List (Tree R)) (rest all : List (Child R)) → front ≡ empty → others ≡ [] → rest ≡ all → RefuseTogether front others rest all
   hangs_none front others rest all e f g path question =
       let P : Tree R → Type 0 = λ table. TableRefuses refuses table path question in
-      let same : others ++ map hung rest ≡ map hung all = ap (λ ts. ts ++ map hung rest) f ∙ ap (map hung) g in (
+      let same : others ++ map tree_of_branch rest ≡ map tree_of_branch all = ap (λ ts. ts ++ map tree_of_branch rest) f ∙ ap (map tree_of_branch) g in (
         ⊎_elim (λ h. absurd (free refuses path question (subst P e h))) (λ h. subst (OneOf P) same h),
         λ h. inr (subst (OneOf P) (sym same) h),
       )
@@ -100,14 +100,14 @@ module _ {R Q : Type 0} (refuses : R → Q → Type 0) where
   -- one more hangs
   pub hangs_last :
       (front next : Tree R) (others : List (Tree R)) (rest left all : List (Child R)) (one : Child R) → rest ≡ one ∷ left
-      → IsMet refuses front (hung one) next → Hangs front others rest all → Hangs next others left all
+      → IsMet refuses front (tree_of_branch one) next → RefuseTogether front others rest all → RefuseTogether next others left all
   hangs_last front next others rest left all one e met so_far path question =
       let P : Tree R → Type 0 = λ table. TableRefuses refuses table path question in
       let was = so_far path question in
       let both = met path question in
-      let before = one_of-append P others (map hung rest) in
-      let after = one_of-append P others (map hung left) in
-      let first : map hung rest ≡ hung one ∷ map hung left = ap (map hung) e in (
+      let before = one_of-append P others (map tree_of_branch rest) in
+      let after = one_of-append P others (map tree_of_branch left) in
+      let first : map tree_of_branch rest ≡ tree_of_branch one ∷ map tree_of_branch left = ap (map tree_of_branch) e in (
         ⊎_elim
             (λ h. was.0 (⊎_elim (λ g. inl g) (λ g. inr (before.1 (inr (subst (OneOf P) (sym first) (inl g))))) (both.0 h)))
             (λ h. was.0 (inr (before.1 (⊎_elim (λ g. inl g) (λ g. inr (subst (OneOf P) (sym first) (inr g))) (after.0 h))))),
@@ -121,16 +121,16 @@ module _ {R Q : Type 0} (refuses : R → Q → Type 0) where
   -- one more is kept beside
   pub hangs_beside :
       (front below : Tree R) (others more : List (Tree R)) (rest left all : List (Child R)) (one : Child R) → rest ≡ one ∷ left
-      → below ≡ hung one → more ≡ others ++ below ∷ [] → Hangs front others rest all → Hangs front more left all
+      → below ≡ tree_of_branch one → more ≡ others ++ below ∷ [] → RefuseTogether front others rest all → RefuseTogether front more left all
   hangs_beside front below others more rest left all one e f g so_far =
-      let same : others ++ map hung rest ≡ more ++ map hung left =
-      ap (λ ts. others ++ map hung ts) e ∙ (λ i. others ++ sym f i ∷ map hung left) ∙ sym (append_assoc others (below ∷ []) (map hung left)) ∙ ap (λ ts. ts ++ map hung left) (sym g) in
-      λ path question. subst (λ ts. (TableRefuses refuses front path question ⊎ OneOf (λ table. TableRefuses refuses table path question) ts) ↔ OneOf (λ table. TableRefuses refuses table path question) (map hung all)) same (so_far path question)
+      let same : others ++ map tree_of_branch rest ≡ more ++ map tree_of_branch left =
+      ap (λ ts. others ++ map tree_of_branch ts) e ∙ (λ i. others ++ sym f i ∷ map tree_of_branch left) ∙ sym (append_assoc others (below ∷ []) (map tree_of_branch left)) ∙ ap (λ ts. ts ++ map tree_of_branch left) (sym g) in
+      λ path question. subst (λ ts. (TableRefuses refuses front path question ⊎ OneOf (λ table. TableRefuses refuses table path question) ts) ↔ OneOf (λ table. TableRefuses refuses table path question) (map tree_of_branch all)) same (so_far path question)
 
   -- where nothing is left, what hangs is met with what is kept beside
   pub hangs_all :
-      (front beside met : Tree R) (others : List (Tree R)) (rest all : List (Child R)) → length rest ≡ 0 → IsUnified refuses others beside → IsMet refuses front beside met
-      → Hangs front others rest all → IsOfBranches refuses (map given_of all) met
+      (front beside met : Tree R) (others : List (Tree R)) (rest all : List (Child R)) → length rest ≡ 0 → AreUnified refuses others beside → IsMet refuses front beside met
+      → RefuseTogether front others rest all → IsOfBranches refuses (map given_of all) met
   hangs_all front beside met others (one ∷ rest) all ended unified both so_far = absurd (omega (arith, ended))
   hangs_all front beside met others [] all ended unified both so_far =
       branches_given refuses all met (λ path question.

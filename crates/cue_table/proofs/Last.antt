@@ -5,7 +5,7 @@ use Rattle.cue_lattice.specs.Path.{Step, step_cmp}
 use Rattle.cue_row.specs.Steps.{step_of}
 use Rattle.cue_table.specs.Inner.Child.{Child}
 use Rattle.cue_table.specs.Depth.{tree_depth, children_depth}
-use Rattle.cue_table.specs.Form.{IsTaken, IsTree, AreBranches}
+use Rattle.cue_table.specs.Form.{IsTreeTaken, IsTree, AreBranches}
 use Rattle.cue_table.specs.Inner.RowList.{last_cmp}
 use Rattle.cue_table.specs.Inner.View.{branches}
 use Rattle.cue_table.proofs.Branches.{below_all}
@@ -22,7 +22,7 @@ module _ {R : Type 0} where
   depth_last (x ∷ front) c = omega (arith, depth_last front c)
 
   -- one more branch behind all others
-  pub form_more : (P : R → Type 0) (cs : List (Child R)) (c : Child R) → last_cmp (step_of c.step) (branches cs) ≡ Less → AreBranches P (branches cs) → IsTaken c.node → IsTree P c.node → AreBranches P (branches (cs ++ c ∷ []))
+  pub form_more : (P : R → Type 0) (cs : List (Child R)) (c : Child R) → last_cmp (step_of c.step) (branches cs) ≡ Less → AreBranches P (branches cs) → IsTreeTaken c.node → IsTree P c.node → AreBranches P (branches (cs ++ c ∷ []))
   form_more P [] c l h t k = (tt, t, k, tt)
   form_more P (x ∷ []) c l h t k = ((l, tt), h.1, h.2, (tt, t, k, tt))
   form_more P (x ∷ y ∷ cs) c l h t k =

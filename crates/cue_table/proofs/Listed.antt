@@ -9,8 +9,8 @@ use Rattle.std.proofs.lemmas.Bool.Decides.{nat_tests}
 use Rattle.cue_lattice.specs.OneOf.{OneOf}
 use Rattle.cue_lattice.specs.Path.{Step, step_cmp}
 use Rattle.cue_table.specs.Tree.{Tree, node, Children, none, child, Rest, no_rest, onward, row_of, if_equal, find}
-use Rattle.cue_table.specs.Slots.{Slot, at, from, slot_cmp, Place, place_cmp, behind, rows_of, rows_below, rows_onward}
-use Rattle.cue_table.specs.Form.{IsBelowAll}
+use Rattle.cue_table.specs.Slots.{Slot, at, from, slot_cmp, Place, place_cmp, row_behind, rows_of, rows_below, rows_onward}
+use Rattle.cue_table.specs.Form.{IsStepBelowAll}
 use Rattle.cue_table.specs.Inner.Loose.{IsLoose, AreLoose, IsLooseRest}
 use Rattle.cue_table.specs.Rows.{by_place, InPlaceOrder, AreRows, kept_rest, kept_branch, kept_row}
 use Rattle.cue_table.proofs.Order.{equal_steps}
@@ -35,51 +35,51 @@ module _ {R : Type 0} where
   abbrev IsBefore : Place → List (Place × R) → Type 0
   IsBefore place = AllByRecursion (λ row. place_cmp place row.0 ≡ Less)
 
-  behind_before : (slot : Slot) (place : Place) (rows : List (Place × R)) → IsBefore place rows → IsBefore (slot ∷ place) (map (behind slot) rows)
+  behind_before : (slot : Slot) (place : Place) (rows : List (Place × R)) → IsBefore place rows → IsBefore (slot ∷ place) (map (row_behind slot) rows)
   behind_before slot place [] h = tt
   behind_before slot place (row ∷ rows) h = (same_behind slot place row.0 ∙ h.0, behind_before slot place rows h.1)
 
-  behind_sorted : (slot : Slot) (rows : List (Place × R)) → IsStrictlySortedBy by_place rows → IsStrictlySortedBy by_place (map (behind slot) rows)
+  behind_sorted : (slot : Slot) (rows : List (Place × R)) → IsStrictlySortedBy by_place rows → IsStrictlySortedBy by_place (map (row_behind slot) rows)
   unfolding IsStrictlySortedBy
   behind_sorted slot [] h = tt
   behind_sorted slot (row ∷ rows) h = (behind_before slot row.0 rows h.0, behind_sorted slot rows h.1)
 
-  after_slot : (s u : Slot) (place : Place) (rows : List (Place × R)) → slot_cmp s u ≡ Less → IsBefore (s ∷ place) (map (behind u) rows)
+  after_slot : (s u : Slot) (place : Place) (rows : List (Place × R)) → slot_cmp s u ≡ Less → IsBefore (s ∷ place) (map (row_behind u) rows)
   after_slot s u place [] h = tt
   after_slot s u place (row ∷ rows) h = (later_slot s u place row.0 h, after_slot s u place rows h)
 
-  after_below : (s : Step) (place : Place) (children : Children R) → IsBelowAll s children → IsBefore (at s ∷ place) (rows_below children)
+  after_below : (s : Step) (place : Place) (children : Children R) → IsStepBelowAll s children → IsBefore (at s ∷ place) (rows_below children)
   after_below s place none h = tt
   after_below s place (child u tree children) h =
-      all_append (λ (row : Place × R). place_cmp (at s ∷ place) row.0 ≡ Less) (map (behind (at u)) (rows_of tree)) (rows_below children)
+      all_append (λ (row : Place × R). place_cmp (at s ∷ place) row.0 ≡ Less) (map (row_behind (at u)) (rows_of tree)) (rows_below children)
       (after_slot (at s) (at u) place (rows_of tree) h.0) (after_below s place children h.1)
 
   after_onward : (s : Step) (place : Place) (rest : Rest R) → IsBefore (at s ∷ place) (rows_onward rest)
   after_onward s place no_rest = tt
   after_onward s place (onward n tree) = after_slot (at s) (from n) place (rows_of tree) refl
 
-  each_before : (s : Step) (rows : List (Place × R)) (children : Children R) → IsBelowAll s children → AllByRecursion (λ (row : Place × R). IsBefore row.0 (rows_below children)) (map (behind (at s)) rows)
+  each_before : (s : Step) (rows : List (Place × R)) (children : Children R) → IsStepBelowAll s children → AllByRecursion (λ (row : Place × R). IsBefore row.0 (rows_below children)) (map (row_behind (at s)) rows)
   each_before s [] children h = tt
   each_before s (row ∷ rows) children h = (after_below s row.0 children h, each_before s rows children h)
 
-  each_onward : (s : Step) (rows : List (Place × R)) (rest : Rest R) → AllByRecursion (λ (row : Place × R). IsBefore row.0 (rows_onward rest)) (map (behind (at s)) rows)
+  each_onward : (s : Step) (rows : List (Place × R)) (rest : Rest R) → AllByRecursion (λ (row : Place × R). IsBefore row.0 (rows_onward rest)) (map (row_behind (at s)) rows)
   each_onward s [] rest = tt
   each_onward s (row ∷ rows) rest = (after_onward s row.0 rest, each_onward s rows rest)
 
   all_onward : (children : Children R) (rest : Rest R) → AllByRecursion (λ (row : Place × R). IsBefore row.0 (rows_onward rest)) (rows_below children)
   all_onward none rest = tt
   all_onward (child s tree children) rest =
-      all_append (λ (row : Place × R). IsBefore row.0 (rows_onward rest)) (map (behind (at s)) (rows_of tree)) (rows_below children)
+      all_append (λ (row : Place × R). IsBefore row.0 (rows_onward rest)) (map (row_behind (at s)) (rows_of tree)) (rows_below children)
       (each_onward s (rows_of tree) rest) (all_onward children rest)
 
-  root_before_slot : (u : Slot) (rows : List (Place × R)) → IsBefore [] (map (behind u) rows)
+  root_before_slot : (u : Slot) (rows : List (Place × R)) → IsBefore [] (map (row_behind u) rows)
   root_before_slot u [] = tt
   root_before_slot u (row ∷ rows) = (refl, root_before_slot u rows)
 
   root_before : (children : Children R) → IsBefore [] (rows_below children)
   root_before none = tt
   root_before (child u tree children) =
-      all_append (λ (row : Place × R). place_cmp [] row.0 ≡ Less) (map (behind (at u)) (rows_of tree)) (rows_below children)
+      all_append (λ (row : Place × R). place_cmp [] row.0 ≡ Less) (map (row_behind (at u)) (rows_of tree)) (rows_below children)
       (root_before_slot (at u) (rows_of tree)) (root_before children)
 
   root_before_rest : (rest : Rest R) → IsBefore [] (rows_onward rest)
@@ -104,7 +104,7 @@ module _ {R : Type 0} where
     below_sorted : (P : R → Type 0) (children : Children R) → AreLoose P children → IsStrictlySortedBy by_place (rows_below children)
     below_sorted P none h = tt
     below_sorted P (child step tree children) h =
-        sorted_append by_place (map (behind (at step)) (rows_of tree)) (rows_below children) (behind_sorted (at step) (rows_of tree) (rows_sorted P tree h.2)) (below_sorted P children h.3)
+        sorted_append by_place (map (row_behind (at step)) (rows_of tree)) (rows_below children) (behind_sorted (at step) (rows_of tree) (rows_sorted P tree h.2)) (below_sorted P children h.3)
         (each_before step (rows_of tree) children h.0)
 
     onward_sorted : (P : R → Type 0) (rest : Rest R) → IsLooseRest P rest → IsStrictlySortedBy by_place (rows_onward rest)
@@ -127,13 +127,13 @@ module _ {R : Type 0} where
   one_of_both P [] ys h = inr h
   one_of_both P (x ∷ xs) ys h = ⊎_elim (λ k. inl (inl k)) (λ k. ⊎_elim (λ l. inl (inr l)) (λ l. inr l) (one_of_both P xs ys k)) h
 
-  one_behind : (slot : Slot) (place : Place) (row : R) (rows : List (Place × R)) → OneOf (Is place row) rows → OneOf (Is (slot ∷ place) row) (map (behind slot) rows)
+  one_behind : (slot : Slot) (place : Place) (row : R) (rows : List (Place × R)) → OneOf (Is place row) rows → OneOf (Is (slot ∷ place) row) (map (row_behind slot) rows)
   one_behind slot place row [] h = absurd h
-  one_behind slot place row (item ∷ rows) h = ⊎_elim (λ e. inl (ap (behind slot) e)) (λ k. inr (one_behind slot place row rows k)) h
+  one_behind slot place row (item ∷ rows) h = ⊎_elim (λ e. inl (ap (row_behind slot) e)) (λ k. inr (one_behind slot place row rows k)) h
 
   -- where a row of the list is kept, it is one of the branch
   behind_one :
-      (slot : Slot) (place : Place) (row : R) (rows : List (Place × R)) → OneOf (Is place row) (map (behind slot) rows)
+      (slot : Slot) (place : Place) (row : R) (rows : List (Place × R)) → OneOf (Is place row) (map (row_behind slot) rows)
       → (left : Place) × (place ≡ slot ∷ left) × OneOf (Is left row) rows
   behind_one slot place row [] h = absurd h
   behind_one slot place row (item ∷ rows) h =
@@ -204,7 +204,7 @@ module _ {R : Type 0} where
         (λ l. let later = listed_below P children place row h.3 l in
         let found = kept_found (find later.0 children) later.1 row later.3 in
         (later.0, later.1, later.2, ap (λ f. kept_in f later.1) (found_later step tree children h.0 later.0 found.0 found.1 (step_cmp later.0 step) refl) ∙ found.2))
-        (one_of_both (Is place row) (map (behind (at step)) (rows_of tree)) (rows_below children) k)
+        (one_of_both (Is place row) (map (row_behind (at step)) (rows_of tree)) (rows_below children) k)
 
     listed_onward :
         (P : R → Type 0) (rest : Rest R) (place : Place) (row : R) → IsLooseRest P rest → OneOf (Is place row) (rows_onward rest)
@@ -227,18 +227,18 @@ module _ {R : Type 0} where
   listed_found step (child next here children) tree place row e h =
       one_found step next here (find step children) tree (λ s t. OneOf (Is (at s ∷ place) row) (rows_below (child next here children)))
       (λ steps same.
-      one_left (Is (at step ∷ place) row) (map (behind (at next)) (rows_of here)) (rows_below children)
-      (subst (λ s. OneOf (Is (at step ∷ place) row) (map (behind (at s)) (rows_of here))) steps
-      (subst (λ t. OneOf (Is (at step ∷ place) row) (map (behind (at step)) (rows_of t))) (sym same) (one_behind (at step) place row (rows_of tree) h))))
-      (λ f. one_right (Is (at step ∷ place) row) (map (behind (at next)) (rows_of here)) (rows_below children) (listed_found step children tree place row f h))
+      one_left (Is (at step ∷ place) row) (map (row_behind (at next)) (rows_of here)) (rows_below children)
+      (subst (λ s. OneOf (Is (at step ∷ place) row) (map (row_behind (at s)) (rows_of here))) steps
+      (subst (λ t. OneOf (Is (at step ∷ place) row) (map (row_behind (at step)) (rows_of t))) (sym same) (one_behind (at step) place row (rows_of tree) h))))
+      (λ f. one_right (Is (at step ∷ place) row) (map (row_behind (at next)) (rows_of here)) (rows_below children) (listed_found step children tree place row f h))
       (step_cmp step next) refl e
 
   listed_rest : (n : ℕ) (rest : Rest R) (tree : Tree R) (place : Place) (row : R) → kept_rest n rest ≡ Some tree → OneOf (Is place row) (rows_of tree) → OneOf (Is (from n ∷ place) row) (rows_onward rest)
   listed_rest n no_rest tree place row e h = cc
   listed_rest n (onward m here) tree place row e h =
       let same = rest_is n m here tree e in
-      subst (λ k. OneOf (Is (from n ∷ place) row) (map (behind (from k)) (rows_of here))) same.0
-      (subst (λ t. OneOf (Is (from n ∷ place) row) (map (behind (from n)) (rows_of t))) (sym same.1) (one_behind (from n) place row (rows_of tree) h))
+      subst (λ k. OneOf (Is (from n ∷ place) row) (map (row_behind (from k)) (rows_of here))) same.0
+      (subst (λ t. OneOf (Is (from n ∷ place) row) (map (row_behind (from n)) (rows_of t))) (sym same.1) (one_behind (from n) place row (rows_of tree) h))
 
   with_root : (here : Option R) (place : Place) (row : R) (rows : List (Place × R)) → OneOf (Is place row) rows → OneOf (Is place row) (map (λ r. ([], r)) (option_to_list here) ++ rows)
   with_root here place row rows h = one_right (Is place row) (map (λ r. ([], r)) (option_to_list here)) rows h

@@ -1,7 +1,7 @@
 -- Each tree in form is in the form that its rows give it.
 use Rattle.cue_table.specs.Tree.{Tree, node, Children, none, child, Rest, no_rest, onward}
 use Rattle.cue_table.specs.Form.{IsTree, AreBranches, IsRestOf}
-use Rattle.cue_table.specs.Inner.Form.{Rise}
+use Rattle.cue_table.specs.Inner.Form.{StepsRise}
 use Rattle.cue_table.specs.Inner.Loose.{IsLoose, AreLoose, IsLooseRest}
 
 module _ {R : Type 0} (P : R → Type 0) where
@@ -18,6 +18,6 @@ module _ {R : Type 0} (P : R → Type 0) where
     loosened_rest children (onward n tree) h = (h.2, loosened tree h.3)
 
   -- the steps of its branches rise
-  pub loose_rise : (children : Children R) → AreLoose P children → Rise children
+  pub loose_rise : (children : Children R) → AreLoose P children → StepsRise children
   loose_rise none h = tt
   loose_rise (child step tree children) h = (h.0, loose_rise children h.3)

@@ -5,12 +5,12 @@ use Rattle.std.specs.declared.cmp.Ordering.TheVariants.{Less, Equal, Greater}
 use Rattle.cue_lattice.specs.Path.{Step, step_cmp, Path}
 use Rattle.cue_table.specs.Tree.{Tree, node, Children, none, child, no_rest, onward, if_equal, find}
 use Rattle.cue_table.specs.Refuses.{TableRefuses}
-use Rattle.cue_table.specs.Form.{IsBelowAll, IsTaken, IsTree, AreBranches, IsKept, IsTable}
+use Rattle.cue_table.specs.Form.{IsStepBelowAll, IsTreeTaken, IsTree, AreBranches, IsRowKept, IsTable}
 use Rattle.cue_table.specs.Meet.{IsMet, IsUnion}
 use Rattle.cue_table.specs.Inner.Meet.{BranchesRefuse, IsMerge}
 use Rattle.cue_table.specs.Inner.Place.{AreBefore}
-use Rattle.cue_table.specs.Inner.Join.{join}
-use Rattle.cue_table.specs.Inner.Parts.{front, past}
+use Rattle.cue_table.specs.Inner.Join.{join_children}
+use Rattle.cue_table.specs.Inner.Parts.{front_branches, branches_past}
 use Rattle.cue_table.proofs.Order.{equal_steps}
 use Rattle.cue_table.proofs.Branches.{find_before, find_past, find_below, below_all, found_refuses, not_silent}
 
@@ -28,7 +28,7 @@ module _ {R Q : Type 0} (refuses : R → Q → Type 0) where
 
   -- a branch in front refuses what it refuses, and the others what they refuse
   front_by :
-      (s : Step) (t : Tree R) (cs : Children R) (step : Step) → IsBelowAll s cs → (o : Ordering) → step_cmp step s ≡ o → (path : Path) (question : Q)
+      (s : Step) (t : Tree R) (cs : Children R) (step : Step) → IsStepBelowAll s cs → (o : Ordering) → step_cmp step s ≡ o → (path : Path) (question : Q)
       → BranchesRefuse refuses (child s t cs) step path question ↔ (BranchesRefuse refuses (child s t none) step path question ⊎ BranchesRefuse refuses cs step path question)
   front_by s t cs step h Less e path question = (
     λ k. inr (carried (child s t cs) cs step (find_before step s t cs e) path question k),
@@ -47,7 +47,7 @@ module _ {R Q : Type 0} (refuses : R → Q → Type 0) where
   )
 
   in_front :
-      (s : Step) (t : Tree R) (cs : Children R) → IsBelowAll s cs → (step : Step) (path : Path) (question : Q)
+      (s : Step) (t : Tree R) (cs : Children R) → IsStepBelowAll s cs → (step : Step) (path : Path) (question : Q)
       → BranchesRefuse refuses (child s t cs) step path question ↔ (BranchesRefuse refuses (child s t none) step path question ⊎ BranchesRefuse refuses cs step path question)
   in_front s t cs h step path question = front_by s t cs step h (step_cmp step s) refl path question
 
@@ -112,10 +112,10 @@ module _ {R Q : Type 0} (refuses : R → Q → Type 0) where
 
     -- the first of the left list stays
     pub merge_left :
-        (s : Step) (t : Tree R) (l r m : Children R) → AreBranches P (child s t l) → IsBelowAll s r → IsMerge refuses P l r m
+        (s : Step) (t : Tree R) (l r m : Children R) → AreBranches P (child s t l) → IsStepBelowAll s r → IsMerge refuses P l r m
         → IsMerge refuses P (child s t l) r (child s t m)
     merge_left s t l r m h b rest =
-        let low : IsBelowAll s m = rest.above s h.0 b in
+        let low : IsStepBelowAll s m = rest.above s h.0 b in
         record {
           form = (low, h.1, h.2, rest.form);
           refused = λ step path question.
@@ -130,10 +130,10 @@ module _ {R Q : Type 0} (refuses : R → Q → Type 0) where
 
     -- the first of the right list stands there
     pub merge_right :
-        (s : Step) (t : Tree R) (l r m : Children R) → AreBranches P (child s t r) → IsBelowAll s l → IsMerge refuses P l r m
+        (s : Step) (t : Tree R) (l r m : Children R) → AreBranches P (child s t r) → IsStepBelowAll s l → IsMerge refuses P l r m
         → IsMerge refuses P l (child s t r) (child s t m)
     merge_right s t l r m h b rest =
-        let low : IsBelowAll s m = rest.above s b h.0 in
+        let low : IsStepBelowAll s m = rest.above s b h.0 in
         record {
           form = (low, h.1, h.2, rest.form);
           refused = λ step path question.
@@ -148,10 +148,10 @@ module _ {R Q : Type 0} (refuses : R → Q → Type 0) where
 
     -- the first of both lists are met
     pub merge_both :
-        (s : Step) (t u v : Tree R) (l r m : Children R) → AreBranches P (child s t l) → AreBranches P (child s u r) → IsTaken v → IsTree P v → IsMet refuses t u v
+        (s : Step) (t u v : Tree R) (l r m : Children R) → AreBranches P (child s t l) → AreBranches P (child s u r) → IsTreeTaken v → IsTree P v → IsMet refuses t u v
         → IsMerge refuses P l r m → IsMerge refuses P (child s t l) (child s u r) (child s v m)
     merge_both s t u v l r m h k taken form met rest =
-        let low : IsBelowAll s m = rest.above s h.0 k.0 in
+        let low : IsStepBelowAll s m = rest.above s h.0 k.0 in
         record {
           form = (low, taken, form, rest.form);
           refused = λ step path question.
@@ -182,7 +182,7 @@ module _ {R Q : Type 0} (refuses : R → Q → Type 0) where
       above = λ step low over. rest.above step low over.1;
     }
 
-    past_form : (n : ℕ) (l : Children R) → AreBranches P l → AreBranches P (past n l)
+    past_form : (n : ℕ) (l : Children R) → AreBranches P l → AreBranches P (branches_past n l)
     past_form zero l h = h
     past_form (suc n) none h = tt
     past_form (suc n) (child s t l) h = past_form n l h.3
@@ -190,26 +190,26 @@ module _ {R Q : Type 0} (refuses : R → Q → Type 0) where
     -- the first branches of the left list stay, which are before all of the right one
     pub merge_front :
         (n : ℕ) (s : Step) (u : Tree R) (l r m : Children R) → AreBranches P l → AreBranches P (child s u r) → AreBefore n s l
-        → IsMerge refuses P (past n l) (child s u r) m → IsMerge refuses P l (child s u r) (join (front n l) m)
+        → IsMerge refuses P (branches_past n l) (child s u r) m → IsMerge refuses P l (child s u r) (join_children (front_branches n l) m)
     merge_front zero s u l r m h k b rest = rest
     merge_front (suc n) s u none r m h k b rest = absurd b
     merge_front (suc n) s u (child next t l) r m h k b rest =
-        merge_left next t l (child s u r) (join (front n l) m) h (b.0, below_all next s r b.0 k.0)
+        merge_left next t l (child s u r) (join_children (front_branches n l) m) h (b.0, below_all next s r b.0 k.0)
         (merge_front n s u l r m h.3 k b.1 rest)
 
     -- a new branch stands there
     pub merge_insert :
-        (n : ℕ) (s : Step) (u : Tree R) (l r m : Children R) → AreBranches P l → AreBranches P (child s u r) → AreBefore n s l → IsBelowAll s (past n l)
-        → IsMerge refuses P (past n l) r m → IsMerge refuses P l (child s u r) (join (front n l) (child s u m))
+        (n : ℕ) (s : Step) (u : Tree R) (l r m : Children R) → AreBranches P l → AreBranches P (child s u r) → AreBefore n s l → IsStepBelowAll s (branches_past n l)
+        → IsMerge refuses P (branches_past n l) r m → IsMerge refuses P l (child s u r) (join_children (front_branches n l) (child s u m))
     merge_insert n s u l r m h k b after rest =
-        merge_front n s u l r (child s u m) h k b (merge_right s u (past n l) r m k after rest)
+        merge_front n s u l r (child s u m) h k b (merge_right s u (branches_past n l) r m k after rest)
 
   module _ (is_value : R → Type 0) where
     abbrev Kept : R → Type 0
-    Kept = IsKept refuses is_value
+    Kept = IsRowKept refuses is_value
 
     -- what a tree with rows is met with has rows
-    pub met_taken : (left right met : Tree R) → IsTaken left → IsTree Kept left → IsMet refuses left right met → IsTaken met
+    pub met_taken : (left right met : Tree R) → IsTreeTaken left → IsTree Kept left → IsMet refuses left right met → IsTreeTaken met
     met_taken left right (node (Some row) children rest) t h met = tt
     met_taken left right (node None (child step tree children) rest) t h met = tt
     met_taken left right (node None none (onward n tree)) t h met = tt
@@ -222,8 +222,8 @@ module _ {R Q : Type 0} (refuses : R → Q → Type 0) where
 
     -- the next branch is met with one at its step
     pub merge_alter :
-        (n : ℕ) (s : Step) (t u v : Tree R) (l rest r m : Children R) → AreBranches Kept l → AreBranches Kept (child s u r) → AreBefore n s l → past n l ≡ child s t rest
-        → IsTable refuses is_value v → IsMet refuses t u v → IsMerge refuses Kept rest r m → IsMerge refuses Kept l (child s u r) (join (front n l) (child s v m))
+        (n : ℕ) (s : Step) (t u v : Tree R) (l rest r m : Children R) → AreBranches Kept l → AreBranches Kept (child s u r) → AreBefore n s l → branches_past n l ≡ child s t rest
+        → IsTable refuses is_value v → IsMet refuses t u v → IsMerge refuses Kept rest r m → IsMerge refuses Kept l (child s u r) (join_children (front_branches n l) (child s v m))
     merge_alter n s t u v l rest r m h k b e form met more =
         let here : AreBranches Kept (child s t rest) = subst (AreBranches Kept) e (past_form Kept n l h) in
         let both = merge_both Kept s t u v rest r m here k (met_taken t u v here.1 here.2 met) form met more in

@@ -2,7 +2,7 @@
 use Rattle.std.proofs.Common.{◌≡◌, [], ◌∷◌, Bool, true, not, Option, Some, None, sym, ap, subst, ◌∙◌}
 use Rattle.std.specs.Option.{is_some}
 use Rattle.cue_table.specs.declared.node.Node.TheInside.{Inside}
-use Rattle.cue_table.specs.Tree.{Tree, Children, node, no_rest, onward, below, rest_of, row_of}
+use Rattle.cue_table.specs.Tree.{Tree, Children, node, no_rest, onward, below, rest_below, row_of}
 use Rattle.cue_table.specs.Refuses.{RowRefuses}
 use Rattle.cue_table.specs.Meet.{IsMet, IsUnion}
 use Rattle.cue_table.specs.Inner.Meet.{IsMerge}
@@ -11,7 +11,7 @@ use Rattle.cue_table.specs.Inner.Parts.{or_row}
 use Rattle.cue_table.proofs.Owned.{own_only, own_view}
 
 trees_met :
-    {R Q : Type 0} (refuses : R → Q → Type 0) (P : R → Type 0) (s t : Tree R) (row : Option R) (cs : Children R) → rest_of s ≡ no_rest → rest_of t ≡ no_rest
+    {R Q : Type 0} (refuses : R → Q → Type 0) (P : R → Type 0) (s t : Tree R) (row : Option R) (cs : Children R) → rest_below s ≡ no_rest → rest_below t ≡ no_rest
     → IsUnion (RowRefuses refuses (row_of s)) (RowRefuses refuses (row_of t)) (RowRefuses refuses row) → IsMerge refuses P (below s) (below t) cs → IsMet refuses s t (node row cs no_rest)
 trees_met refuses P (node q ds no_rest) (node r es no_rest) row cs x y rows merge [] question = rows question
 trees_met refuses P (node q ds no_rest) (node r es no_rest) row cs x y rows merge (step ∷ path) question = merge.refused step path question

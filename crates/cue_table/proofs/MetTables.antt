@@ -3,7 +3,7 @@ use Rattle.std.proofs.Common.{◌≡◌, ◌↔◌, ◌⊎◌, ◌≤◌, ℕ, i
 use Rattle.cue_lattice.specs.Path.{Step, label, index, Path}
 use Rattle.cue_row.specs.declared.parts.RowParts.{RowParts as Row}
 use Rattle.cue_row.specs.declared.level.Level.TheVariants.{Optional}
-use Rattle.cue_row.specs.Row.{Refuses, IsRow}
+use Rattle.cue_row.specs.Row.{RefusesAsked, IsRow}
 use Rattle.cue_row.specs.RowLaws.{same_rows}
 use Rattle.std.specs.List.{AllByRecursion}
 use Rattle.cue_row.specs.Steps.{IsWithinDepth}
@@ -12,18 +12,18 @@ use Rattle.cue_row.proofs.MetValid.{AreMetRows, met_valid, met_level, met_struct
 use Rattle.std.specs.Option.{option_and_then}
 use Rattle.cue_row.specs.declared.question.Question.{Question}
 use Rattle.cue_table.specs.Tree.{Tree, node, none, child, no_rest, onward, row_of, step_into, branch_at, row_at}
-use Rattle.cue_table.specs.Form.{IsRow as Holds, IsTaken, IsTree, IsTable}
+use Rattle.cue_table.specs.Form.{IsTableRow as Holds, IsTreeTaken, IsTree, IsTable}
 use Rattle.cue_table.specs.Refuses.{RowRefuses, TableRefuses}
 use Rattle.cue_table.proofs.Branches.{FoundRefuses}
 use Rattle.cue_table.proofs.Exact.{IsFound, exact_branch}
 use Rattle.cue_table.proofs.Finding.{found_form}
 use Rattle.cue_table.specs.Meet.{IsUnion, IsMet}
-use Rattle.cue_table.specs.Valid.{further, MayHold, IsOpenStruct, HasOpenRoot, IsValidTable}
+use Rattle.cue_table.specs.Valid.{path_below, MayHold, IsOpenStruct, HasOpenRoot, IsValidTable}
 use Rattle.cue_table.proofs.Depth.{kept_at, taken_row}
 use Rattle.cue_table.proofs.Validity.{Kept, row_above, valid_root}
 use Rattle.cue_table.proofs.ValidWalks.{valid_empty, nothing_at}
 
-some_row : (o : Option Row) (question : Question) → RowRefuses Refuses o question → (row : Row) × (o ≡ Some row)
+some_row : (o : Option Row) (question : Question) → RowRefuses RefusesAsked o question → (row : Row) × (o ≡ Some row)
 some_row None question r = absurd r
 some_row (Some row) question r = (row, refl)
 
@@ -40,15 +40,15 @@ branch_append tree [] more = refl
 branch_append tree (step ∷ path) more = found_append (step_into tree step) path more (λ branch. branch_append branch path more)
 
 found_more :
-    (found : Option (Tree Row)) (path : Path) → ((tree : Tree Row) → found ≡ Some tree → IsFound Refuses IsRow (branch_at tree path))
-    → IsFound Refuses IsRow (option_and_then (λ branch. branch_at branch path) found)
+    (found : Option (Tree Row)) (path : Path) → ((tree : Tree Row) → found ≡ Some tree → IsFound RefusesAsked IsRow (branch_at tree path))
+    → IsFound RefusesAsked IsRow (option_and_then (λ branch. branch_at branch path) found)
 found_more None path f = tt
 found_more (Some tree) path f = f tree refl
 
 -- a branch below a tree in form is in form and not empty
-found_at : (tree : Tree Row) (path : Path) (step : Step) → IsTree Kept tree → IsFound Refuses IsRow (branch_at tree (further path step))
+found_at : (tree : Tree Row) (path : Path) (step : Step) → IsTree Kept tree → IsFound RefusesAsked IsRow (branch_at tree (path_below path step))
 found_at tree [] step h = found_more (step_into tree step) [] (λ next e. found_form Kept step tree next h e)
-found_at tree (next ∷ path) step h = found_more (step_into tree next) (further path step) (λ branch e. found_at branch path step (found_form Kept next tree branch h e).1)
+found_at tree (next ∷ path) step h = found_more (step_into tree next) (path_below path step) (λ branch e. found_at branch path step (found_form Kept next tree branch h e).1)
 
 -- the rows of three tables at one path, the third of which is met of the others
 abbrev IsJoined : Option Row → Option Row → Option Row → Type 0
@@ -57,7 +57,7 @@ IsJoined (Some p) None m = m ≡ Some p
 IsJoined None (Some q) m = m ≡ Some q
 IsJoined (Some p) (Some q) m = (row : Row) × (m ≡ Some row) × AreMetRows p q row
 
-joined : (x y z : Option Row) → Holds Kept x → Holds Kept y → Holds Kept z → IsUnion (RowRefuses Refuses x) (RowRefuses Refuses y) (RowRefuses Refuses z) → IsJoined x y z
+joined : (x y z : Option Row) → Holds Kept x → Holds Kept y → Holds Kept z → IsUnion (RowRefuses RefusesAsked x) (RowRefuses RefusesAsked y) (RowRefuses RefusesAsked z) → IsJoined x y z
 joined None None None h k l u = refl
 joined None None (Some z) h k l u = absurd (l.1 (λ q r. ⊎_elim (λ n. absurd n) (λ n. absurd n) ((u q).0 r)))
 joined (Some p) None None h k l u = absurd (h.1 (λ q r. (u q).1 (inl r)))
@@ -77,8 +77,8 @@ holds_at tree path h = by (row_at tree path) refl where
 record AreTables (a b m : Tree Row) : Type 0 where
   left : IsValidTable a
   right : IsValidTable b
-  form : IsTable Refuses IsRow m
-  met : IsMet Refuses a b m
+  form : IsTable RefusesAsked IsRow m
+  met : IsMet RefusesAsked a b m
 
 turned : (a b m : Tree Row) → AreTables a b m → AreTables b a m
 turned a b m h = record {
@@ -148,7 +148,7 @@ may_left (Some s) (Some q) z p row step j d e v k =
 
 -- what stands below a row in the first table may stand below the met row
 may_at :
-    (a b m : Tree Row) (path : Path) (step : Step) (parent below : Row) → AreTables a b m → row_at m path ≡ Some parent → row_at a (further path step) ≡ Some below
+    (a b m : Tree Row) (path : Path) (step : Step) (parent below : Row) → AreTables a b m → row_at m path ≡ Some parent → row_at a (path_below path step) ≡ Some below
     → MayHold parent step
 may_at a b m path step parent below h e f =
     let above = h.left.parents path step below f in
@@ -156,19 +156,19 @@ may_at a b m path step parent below h e f =
     (h.left.kinds path step above.0 below above.1 f)
 
 may_stand :
-    (a b m : Tree Row) (path : Path) (step : Step) (parent row : Row) → AreTables a b m → row_at m path ≡ Some parent → row_at m (further path step) ≡ Some row
+    (a b m : Tree Row) (path : Path) (step : Step) (parent row : Row) → AreTables a b m → row_at m path ≡ Some parent → row_at m (path_below path step) ≡ Some row
     → MayHold parent step
 may_stand a b m path step parent row h e f =
-    ⊎_elim (λ (k : (p : Row) × (row_at a (further path step) ≡ Some p)). may_at a b m path step parent k.0 h e k.1)
-    (λ (k : (p : Row) × (row_at b (further path step) ≡ Some p)). may_at b a m path step parent k.0 (turned a b m h) e k.1)
-    (side_at a b m (further path step) row h f)
+    ⊎_elim (λ (k : (p : Row) × (row_at a (path_below path step) ≡ Some p)). may_at a b m path step parent k.0 h e k.1)
+    (λ (k : (p : Row) × (row_at b (path_below path step) ≡ Some p)). may_at b a m path step parent k.0 (turned a b m h) e k.1)
+    (side_at a b m (path_below path step) row h f)
 
-has_parent : (a b m : Tree Row) (path : Path) (step : Step) (row : Row) → AreTables a b m → row_at m (further path step) ≡ Some row → (parent : Row) × (row_at m path ≡ Some parent)
+has_parent : (a b m : Tree Row) (path : Path) (step : Step) (row : Row) → AreTables a b m → row_at m (path_below path step) ≡ Some row → (parent : Row) × (row_at m path ≡ Some parent)
 has_parent a b m path step row h e =
     ⊎_elim
-    (λ (k : (p : Row) × (row_at a (further path step) ≡ Some p)). let above = h.left.parents path step k.0 k.1 in from_left_at a b m path above.0 h above.1)
-    (λ (k : (p : Row) × (row_at b (further path step) ≡ Some p)). let above = h.right.parents path step k.0 k.1 in from_left_at b a m path above.0 (turned a b m h) above.1)
-    (side_at a b m (further path step) row h e)
+    (λ (k : (p : Row) × (row_at a (path_below path step) ≡ Some p)). let above = h.left.parents path step k.0 k.1 in from_left_at a b m path above.0 h above.1)
+    (λ (k : (p : Row) × (row_at b (path_below path step) ≡ Some p)). let above = h.right.parents path step k.0 k.1 in from_left_at b a m path above.0 (turned a b m h) above.1)
+    (side_at a b m (path_below path step) row h e)
 
 -- of both sides, what is said of the paths of rows
 path_met : (P : Path → Type 0) (a b m : Tree Row) (path : Path) (row : Row) → AreTables a b m → row_at m path ≡ Some row
@@ -192,7 +192,7 @@ none_left a b m h e = by (row_at a []) refl where
   by None f = refl
   by (Some p) f = let row = from_left_at a b m [] p h f in let no : None ≡ Some row.0 = sym e ∙ row.1 in cc
 
-not_taken : (a b m : Tree Row) → AreTables a b m → row_of m ≡ None → IsTaken m → ⊥
+not_taken : (a b m : Tree Row) → AreTables a b m → row_of m ≡ None → IsTreeTaken m → ⊥
 not_taken a b m h e t =
     let some = taken_row Kept m t h.form in
     no_root a b m h (none_left a b m h e) (none_left b a m (turned a b m h) e) some.1 some.0 some.2
@@ -225,13 +225,13 @@ least_left (Some s) (Some q) z p row j d e =
 -- from such an index on, the elements of a valid table refuse the same
 alike_refuses :
     (a : Tree Row) (path : Path) (i j : ℕ) (more : Path) (question : Question) → IsValidTable a → ((p : Row) → row_at a path ≡ Some p → (p.least ≤ i) × (p.least ≤ j))
-    → TableRefuses Refuses a (further path (index i) ++ more) question → TableRefuses Refuses a (further path (index j) ++ more) question
+    → TableRefuses RefusesAsked a (path_below path (index i) ++ more) question → TableRefuses RefusesAsked a (path_below path (index j) ++ more) question
 alike_refuses a path i j more question h low r = by (row_at a path) refl
   where
-    to : TableRefuses Refuses a (further path (index i) ++ more) question → (row : Row) × (row_at a (further path (index i) ++ more) ≡ Some row)
-    to r = some_row (row_at a (further path (index i) ++ more)) question r
+    to : TableRefuses RefusesAsked a (path_below path (index i) ++ more) question → (row : Row) × (row_at a (path_below path (index i) ++ more) ≡ Some row)
+    to r = some_row (row_at a (path_below path (index i) ++ more)) question r
 
-    by : (o : Option Row) → row_at a path ≡ o → TableRefuses Refuses a (further path (index j) ++ more) question
+    by : (o : Option Row) → row_at a path ≡ o → TableRefuses RefusesAsked a (path_below path (index j) ++ more) question
     by None e =
         let row = to r in
         let above = row_above a path (index i ∷ more) row.0 h (ap (row_at a) (sym (append_assoc path (index i ∷ []) more)) ∙ row.1) in
@@ -239,43 +239,43 @@ alike_refuses a path i j more question h low r = by (row_at a path) refl
         absurd (cc)
     by (Some p) e =
         let same = h.elements path p i j e (low p e).0 (low p e).1 in
-        let rows : row_at a (further path (index i) ++ more) ≡ row_at a (further path (index j) ++ more) =
-        ap (option_and_then row_of) (branch_append a (further path (index i)) more)
+        let rows : row_at a (path_below path (index i) ++ more) ≡ row_at a (path_below path (index j) ++ more) =
+        ap (option_and_then row_of) (branch_append a (path_below path (index i)) more)
         ∙ ap (λ found. option_and_then row_of (option_and_then (λ branch. branch_at branch more) found)) same
-        ∙ sym (ap (option_and_then row_of) (branch_append a (further path (index j)) more)) in
-        subst (λ o. RowRefuses Refuses o question) rows r
+        ∙ sym (ap (option_and_then row_of) (branch_append a (path_below path (index j)) more)) in
+        subst (λ o. RowRefuses RefusesAsked o question) rows r
 
 alike_met :
     (a b m : Tree Row) (path : Path) (row : Row) (i j : ℕ) (more : Path) (question : Question) → AreTables a b m → row_at m path ≡ Some row → row.least ≤ i → row.least ≤ j
-    → TableRefuses Refuses m (further path (index i) ++ more) question → TableRefuses Refuses m (further path (index j) ++ more) question
+    → TableRefuses RefusesAsked m (path_below path (index i) ++ more) question → TableRefuses RefusesAsked m (path_below path (index j) ++ more) question
 alike_met a b m path row i j more question h e k l r =
-    (h.met (further path (index j) ++ more) question).1
+    (h.met (path_below path (index j) ++ more) question).1
     (⊎_elim
     (λ x. inl (alike_refuses a path i j more question h.left
     (λ p f. let low = least_left (row_at a path) (row_at b path) (row_at m path) p row (joined_at a b m path h) f e in (omega arith, omega arith)) x))
     (λ x. inr (alike_refuses b path i j more question h.right
     (λ p f. let low = least_left (row_at b path) (row_at a path) (row_at m path) p row (joined_at b a m path (turned a b m h)) f e in (omega arith, omega arith)) x))
-    ((h.met (further path (index i) ++ more) question).0 r))
+    ((h.met (path_below path (index i) ++ more) question).0 r))
 
 -- what a branch refuses at a path is what the table refuses there
-as_table : (m : Tree Row) (path more : Path) (question : Question) → FoundRefuses Refuses (branch_at m path) more question ↔ TableRefuses Refuses m (path ++ more) question
+as_table : (m : Tree Row) (path more : Path) (question : Question) → FoundRefuses RefusesAsked (branch_at m path) more question ↔ TableRefuses RefusesAsked m (path ++ more) question
 as_table m path more question =
     let rows = ap (option_and_then row_of) (branch_append m path more) in
-    (λ r. subst (λ o. RowRefuses Refuses o question) (sym rows) r, λ r. subst (λ o. RowRefuses Refuses o question) rows r)
+    (λ r. subst (λ o. RowRefuses RefusesAsked o question) (sym rows) r, λ r. subst (λ o. RowRefuses RefusesAsked o question) rows r)
 
 elements_met :
     (a b m : Tree Row) (path : Path) (row : Row) (i j : ℕ) → AreTables a b m → row_at m path ≡ Some row → row.least ≤ i → row.least ≤ j
-    → branch_at m (further path (index i)) ≡ branch_at m (further path (index j))
+    → branch_at m (path_below path (index i)) ≡ branch_at m (path_below path (index j))
 elements_met a b m path row i j h e k l =
-    exact_branch Refuses IsRow same_rows (branch_at m (further path (index i))) (branch_at m (further path (index j)))
+    exact_branch RefusesAsked IsRow same_rows (branch_at m (path_below path (index i))) (branch_at m (path_below path (index j)))
     (found_at m path (index i) h.form) (found_at m path (index j) h.form)
     (λ more question. (
-      λ r. (as_table m (further path (index j)) more question).1 (alike_met a b m path row i j more question h e k l ((as_table m (further path (index i)) more question).0 r)),
-      λ r. (as_table m (further path (index i)) more question).1 (alike_met a b m path row j i more question h e l k ((as_table m (further path (index j)) more question).0 r)),
+      λ r. (as_table m (path_below path (index j)) more question).1 (alike_met a b m path row i j more question h e k l ((as_table m (path_below path (index i)) more question).0 r)),
+      λ r. (as_table m (path_below path (index i)) more question).1 (alike_met a b m path row j i more question h e l k ((as_table m (path_below path (index j)) more question).0 r)),
     ))
 
 -- what is met of two valid tables is a valid table
-pub met_tables : (a b m : Tree Row) → IsTable Refuses IsRow m → IsMet Refuses a b m → IsValidTable a → IsValidTable b → IsValidTable m
+pub met_tables : (a b m : Tree Row) → IsTable RefusesAsked IsRow m → IsMet RefusesAsked a b m → IsValidTable a → IsValidTable b → IsValidTable m
 met_tables a b m form met left right =
     let h : AreTables a b m = record { left = left; right = right; form = form; met = met } in
     record {
@@ -285,7 +285,7 @@ met_tables a b m form met left right =
       labels = λ path row e. path_met (AllByRecursion IsWordStep) a b m path row h e (λ p k. left.labels path p k) (λ p k. right.labels path p k);
       root = root_met a b m h;
       root_level = λ row e. each_met_at (λ r. r.level ≡ Optional) met_level a b m [] row h e (λ p k. left.root_level p k) (λ p k. right.root_level p k);
-      element_levels = λ path n row e. each_met_at (λ r. r.level ≡ Optional) met_level a b m (further path (index n)) row h e
+      element_levels = λ path n row e. each_met_at (λ r. r.level ≡ Optional) met_level a b m (path_below path (index n)) row h e
           (λ p k. left.element_levels path n p k) (λ p k. right.element_levels path n p k);
       parents = λ path step row e. has_parent a b m path step row h e;
       kinds = λ path step parent row d e. may_stand a b m path step parent row h d e;

@@ -6,12 +6,12 @@ use Rattle.std.proofs.lemmas.Bool.{cases_lt}
 use Rattle.cue_lattice.specs.Path.{Step, step_cmp}
 use Rattle.cue_row.specs.Steps.{step_of}
 use Rattle.cue_table.specs.Tree.{Children, none, child, find}
-use Rattle.cue_table.specs.Form.{IsBelowAll}
-use Rattle.cue_table.specs.Inner.Form.{Rise}
+use Rattle.cue_table.specs.Form.{IsStepBelowAll}
+use Rattle.cue_table.specs.Inner.Form.{StepsRise}
 use Rattle.cue_table.specs.Inner.Child.{Child}
-use Rattle.cue_table.specs.Inner.Near.{Reaches}
+use Rattle.cue_table.specs.Inner.Near.{ReachesNear}
 use Rattle.cue_table.specs.Inner.Place.{AreBefore, ArePassed, IsPlace, IsGap}
-use Rattle.cue_table.specs.Inner.Parts.{past}
+use Rattle.cue_table.specs.Inner.Parts.{branches_past}
 use Rattle.cue_table.specs.Inner.View.{branches}
 use Rattle.cue_table.proofs.Branches.{below_all, find_below, find_past}
 use Rattle.cue_table.proofs.Finding.{find_at, reverse_cmp}
@@ -30,23 +30,23 @@ get_take (suc n) zero (x ∷ xs) d l = refl
 get_take (suc n) (suc at) (x ∷ xs) d l = get_take n at xs d (omega arith)
 
 -- no branch is at a step between two neighbours
-absent_at : {R : Type 0} (step : Step) (k : ℕ) (cs : Children R) → AreBefore k step cs → IsBelowAll step (past k cs) → find step cs ≡ None
+absent_at : {R : Type 0} (step : Step) (k : ℕ) (cs : Children R) → AreBefore k step cs → IsStepBelowAll step (branches_past k cs) → find step cs ≡ None
 absent_at step zero cs before after = find_below step cs after
 absent_at step (suc k) none before after = absurd before
 absent_at step (suc k) (child next tree cs) before after = find_past step next tree cs (reverse_cmp next step Less before.0) ∙ absent_at step k cs before.1 after
 
 module _ {R : Type 0} where
-  below_take : (x : Step) (n : ℕ) (cs : List (Child R)) → IsBelowAll x (branches cs) → IsBelowAll x (branches (take n cs))
+  below_take : (x : Step) (n : ℕ) (cs : List (Child R)) → IsStepBelowAll x (branches cs) → IsStepBelowAll x (branches (take n cs))
   below_take x zero cs h = tt
   below_take x (suc n) [] h = tt
   below_take x (suc n) (c ∷ cs) h = (h.0, below_take x n cs h.1)
 
-  pub rise_take : (n : ℕ) (cs : List (Child R)) → Rise (branches cs) → Rise (branches (take n cs))
+  pub rise_take : (n : ℕ) (cs : List (Child R)) → StepsRise (branches cs) → StepsRise (branches (take n cs))
   rise_take zero cs h = tt
   rise_take (suc n) [] h = tt
   rise_take (suc n) (c ∷ cs) h = (below_take (step_of c.step) n cs h.0, rise_take n cs h.1)
 
-  pub rise_drop : (n : ℕ) (cs : List (Child R)) → Rise (branches cs) → Rise (branches (drop n cs))
+  pub rise_drop : (n : ℕ) (cs : List (Child R)) → StepsRise (branches cs) → StepsRise (branches (drop n cs))
   rise_drop zero cs h = h
   rise_drop (suc n) [] h = tt
   rise_drop (suc n) (c ∷ cs) h = rise_drop n cs h.1
@@ -63,13 +63,13 @@ module _ {R : Type 0} where
   before_at step (suc k) zero (c ∷ cs) d h l = h.0
   before_at step (suc k) (suc i) (c ∷ cs) d h l = before_at step k i cs d h.1 (omega arith)
 
-  after_take : (step : Step) (at n : ℕ) (cs : List (Child R)) → at < n → at < length cs → Rise (branches cs) → IsBelowAll step (past at (branches (take n cs))) → IsBelowAll step (past at (branches cs))
+  after_take : (step : Step) (at n : ℕ) (cs : List (Child R)) → at < n → at < length cs → StepsRise (branches cs) → IsStepBelowAll step (branches_past at (branches (take n cs))) → IsStepBelowAll step (branches_past at (branches cs))
   after_take step at zero cs l k a h = absurd (omega arith)
   after_take step at (suc n) [] l k a h = absurd (omega arith)
   after_take step zero (suc n) (c ∷ cs) l k a h = (h.0, below_all step (step_of c.step) (branches cs) h.0 a.0)
   after_take step (suc at) (suc n) (c ∷ cs) l k a h = after_take step at n cs (omega arith) (omega arith) a.1 h
 
-  place_in : (cs : List (Child R)) (step : Step) (n at : ℕ) → Rise (branches cs) → IsPlace (take n cs) step at → IsPlace cs step at
+  place_in : (cs : List (Child R)) (step : Step) (n at : ℕ) → StepsRise (branches cs) → IsPlace (take n cs) step at → IsPlace cs step at
   place_in cs step n at a place =
       let bound = place.in_range in
       let cut = length-take n cs in
@@ -83,7 +83,7 @@ module _ {R : Type 0} where
         before = before_take step at n cs place.before;
       }
 
-  gap_in : (cs : List (Child R)) (step : Step) (n at : ℕ) (d : Child R) → Rise (branches cs) → 0 < n → n < length cs → step_cmp (step_of (get_or cs (n - 1) d).step) step ≢ Less → IsGap (take n cs) step at → IsGap cs step at
+  gap_in : (cs : List (Child R)) (step : Step) (n at : ℕ) (d : Child R) → StepsRise (branches cs) → 0 < n → n < length cs → step_cmp (step_of (get_or cs (n - 1) d).step) step ≢ Less → IsGap (take n cs) step at → IsGap cs step at
   gap_in cs step n at d a pos less stop gap =
       let bound = gap.in_range in
       let cut = length-take n cs in
@@ -103,7 +103,7 @@ module _ {R : Type 0} where
 
   -- what is found among the first branches is found among all, where these reach the step
   pub near_found :
-      (cs : List (Child R)) (step : Step) (n : ℕ) (r : Result ℕ ℕ) → Rise (branches cs) → Reaches cs step n
+      (cs : List (Child R)) (step : Step) (n : ℕ) (r : Result ℕ ℕ) → StepsRise (branches cs) → ReachesNear cs step n
       → MatchResult r (IsPlace (take n cs) step) (IsGap (take n cs) step) → MatchResult r (IsPlace cs step) (IsGap cs step)
   near_found cs step n (Ok at) a reaches found = place_in cs step n at a found
   near_found cs step n (Err at) a reaches found =

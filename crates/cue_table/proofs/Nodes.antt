@@ -8,13 +8,13 @@ use Rattle.cue_lattice.specs.Path.{label, index, step_cmp}
 use Rattle.cue_row.specs.declared.step.Step.{Step}
 use Rattle.cue_row.specs.declared.step.Step.TheVariants.{Label, Index}
 use Rattle.cue_row.specs.Steps.{step_of}
-use Rattle.cue_table.specs.Tree.{Tree, node, Children, none, child, taken, labels_of, items_of}
+use Rattle.cue_table.specs.Tree.{Tree, node, Children, none, child, if_not_empty, labels_of, items_of}
 use Rattle.std.specs.Global.{Global}
 use Rattle.std.specs.Prelude.{Box}
 use Rattle.cue_table.specs.declared.node.Onward.{Onward}
 use Rattle.cue_table.specs.Tree.{behind_last}
-use Rattle.cue_table.specs.Form.{IsBelowAll, StartsAtIndex, IsTree, AreBranches, IsRestOf}
-use Rattle.cue_table.specs.Inner.Form.{Rise}
+use Rattle.cue_table.specs.Form.{IsStepBelowAll, StartsAtIndex, IsTree, AreBranches, IsRestOf}
+use Rattle.cue_table.specs.Inner.Form.{StepsRise}
 use Rattle.cue_table.specs.Size.{tree_size, children_size}
 use Rattle.cue_table.specs.Inner.View.{below_in, branches, rest_in, run_branches, tree_of}
 use Rattle.cue_table.specs.Inner.Child.{Child, step_same}
@@ -47,7 +47,7 @@ rest_form P a tree b e r h =
 -- a node with branches is not empty
 pub taken_below :
     {R Q : Type 0} (row : Option R) (cs : List (Child R)) (rest : Option (Box (Onward R Q) Global)) (len : ℕ) → len ≡ length cs → false ≡ nat_eq len 0
-    → taken (node row (below_in (branches cs) rest) (rest_in rest)) ≡ Some (node row (below_in (branches cs) rest) (rest_in rest))
+    → if_not_empty (node row (below_in (branches cs) rest) (rest_in rest)) ≡ Some (node row (below_in (branches cs) rest) (rest_in rest))
 taken_below (Some row) cs rest len e h = refl
 taken_below None (c ∷ cs) None len e h = refl
 taken_below None (c ∷ cs) (Some b) len e h = refl
@@ -73,7 +73,7 @@ child_within (suc n) (c ∷ cs) d l = let less = child_within n cs d (omega (ari
 child_within n [] d l = absurd (omega (arith, l))
 
 -- no label stands after an index
-no_labels : {R : Type 0} (n : ℕ) (children : Children R) → IsBelowAll (index n) children → labels_of children ≡ []
+no_labels : {R : Type 0} (n : ℕ) (children : Children R) → IsStepBelowAll (index n) children → labels_of children ≡ []
 no_labels n none h = refl
 no_labels n (child (label text) tree children) h = let e = h.0 in cc
 no_labels n (child (index m) tree children) h = no_labels n children h.1
@@ -95,12 +95,12 @@ module _ {R : Type 0} where
       → all ≡ c ∷ rest → c.step ≡ Index n → labels_of (branches all) ≡ labels → AreBranches P (branches all) → labels ≡ []
   no_labels_left P all rest c n labels e i v h =
       let form : AreBranches P (branches (c ∷ rest)) = subst (λ cs. AreBranches P (branches cs)) e h in
-      let after : IsBelowAll (index n) (branches rest) = subst (λ s. IsBelowAll (step_of s) (branches rest)) i form.0 in
+      let after : IsStepBelowAll (index n) (branches rest) = subst (λ s. IsStepBelowAll (step_of s) (branches rest)) i form.0 in
       sym v ∙ ap (λ cs. labels_of (branches cs)) e ∙ ap (λ s. labels_of (child (step_of s) c.node (branches rest))) i
       ∙ no_labels n (branches rest) after
 
   -- labels come first
-  pub labels_first : (cs : List (Child R)) → Rise (branches cs) → IsPartitionedBy (λ c. is_label c.step) cs
+  pub labels_first : (cs : List (Child R)) → StepsRise (branches cs) → IsPartitionedBy (λ c. is_label c.step) cs
   labels_first [] h i j d le lt e = absurd (omega arith)
   labels_first (c ∷ cs) h zero zero d le lt e = e
   labels_first (c ∷ cs) h zero (suc j) d le lt e =
@@ -108,12 +108,12 @@ module _ {R : Type 0} where
   labels_first (c ∷ cs) h (suc i) zero d le lt e = absurd (omega arith)
   labels_first (c ∷ cs) h (suc i) (suc j) d le lt e = labels_first cs h.1 i j d (omega arith) (omega arith) e
 
-  below_last : (s : paths.Step) (cs : List (Child R)) (c : Child R) → IsBelowAll s (branches (cs ++ c ∷ [])) → step_cmp s (step_of c.step) ≡ Less
+  below_last : (s : paths.Step) (cs : List (Child R)) (c : Child R) → IsStepBelowAll s (branches (cs ++ c ∷ [])) → step_cmp s (step_of c.step) ≡ Less
   below_last s [] c h = h.0
   below_last s (d ∷ cs) c h = below_last s cs c h.1
 
   -- behind an element that stands last
-  pub behind_index : (cs : List (Child R)) (c : Child R) (n : ℕ) → Rise (branches (cs ++ c ∷ [])) → step_of c.step ≡ index n → behind_last (branches (cs ++ c ∷ [])) ≡ n + 1
+  pub behind_index : (cs : List (Child R)) (c : Child R) (n : ℕ) → StepsRise (branches (cs ++ c ∷ [])) → step_of c.step ≡ index n → behind_last (branches (cs ++ c ∷ [])) ≡ n + 1
   behind_index [] c n h e = ap (λ s. behind_last (child s c.node none)) e ∙ omega arith
   behind_index (d ∷ cs) c n h e = by (step_of d.step) refl (behind_index cs c n h.1 e)
     where
@@ -126,7 +126,7 @@ module _ {R : Type 0} where
           rw others (omega arith)
 
   -- where a label stands last, there is no element
-  pub behind_label : (cs : List (Child R)) (c : Child R) (l : List ℕ) → Rise (branches (cs ++ c ∷ [])) → step_of c.step ≡ label l → behind_last (branches (cs ++ c ∷ [])) ≡ 0
+  pub behind_label : (cs : List (Child R)) (c : Child R) (l : List ℕ) → StepsRise (branches (cs ++ c ∷ [])) → step_of c.step ≡ label l → behind_last (branches (cs ++ c ∷ [])) ≡ 0
   behind_label [] c l h e = ap (λ s. behind_last (child s c.node none)) e
   behind_label (d ∷ cs) c l h e = by (step_of d.step) refl (behind_label cs c l h.1 e)
     where

@@ -8,18 +8,18 @@ use Rattle.cue_table.specs.declared.node.Onward.{Onward}
 use Rattle.cue_table.specs.Tree.{Tree, Children, node, child, no_rest, below}
 use Rattle.cue_table.specs.declared.node.Node.TheInside.{Inside}
 use Rattle.cue_table.specs.Form.{AreBranches, IsTree}
-use Rattle.cue_table.specs.Inner.Join.{join}
-use Rattle.cue_table.specs.Inner.Parts.{past}
+use Rattle.cue_table.specs.Inner.Join.{join_children}
+use Rattle.cue_table.specs.Inner.Parts.{branches_past}
 use Rattle.cue_table.specs.Inner.View.{below_in, branches, rest_in, run_branches, tree_of}
 use Rattle.cue_table.proofs.Joined.{join_none}
 
 module _ {R : Type 0} where
-  pub past_drop : (n : ℕ) (cs : List (Child R)) → past n (branches cs) ≡ branches (drop n cs)
+  pub past_drop : (n : ℕ) (cs : List (Child R)) → branches_past n (branches cs) ≡ branches (drop n cs)
   past_drop zero cs = refl
   past_drop (suc n) [] = refl
   past_drop (suc n) (c ∷ cs) = past_drop n cs
 
-  pub past_at : (n : ℕ) (cs : List (Child R)) (d : Child R) → n < length cs → past n (branches cs) ≡ child (step_of (get_or cs n d).step) (get_or cs n d).node (branches (drop (suc n) cs))
+  pub past_at : (n : ℕ) (cs : List (Child R)) (d : Child R) → n < length cs → branches_past n (branches cs) ≡ child (step_of (get_or cs n d).step) (get_or cs n d).node (branches (drop (suc n) cs))
   past_at zero (c ∷ cs) d l = refl
   past_at (suc n) (c ∷ cs) d l = past_at n cs d (omega arith)
   past_at zero [] d l = absurd (omega arith)
@@ -32,7 +32,7 @@ own_only own (Some b) e = cc
 
 -- behind no runs it has just these, too
 pub no_runs : {R Q : Type 0} (own : Children R) (b : Box (Onward R Q) Global) → b.value.runs.items ≡ [] → below_in own (Some b) ≡ own
-no_runs own b e = ap (λ rs. join own (run_branches rs)) e ∙ join_none own
+no_runs own b e = ap (λ rs. join_children own (run_branches rs)) e ∙ join_none own
 
 -- a place without a rest as its own branches tell it
 pub own_view : {R Q : Type 0} (a : Inside R Q) (s : Tree R) → tree_of a ≡ s → rest_in a.rest ≡ no_rest → node a.row (branches a.children.items) (rest_in a.rest) ≡ s

@@ -4,7 +4,7 @@ use Rattle.cue_lattice.specs.OneOf.{OneOf}
 use Rattle.cue_lattice.specs.Path.{Step, step_cmp}
 use Rattle.cue_table.specs.Tree.{Tree, node, Children, none, child, Rest, no_rest, onward, find}
 use Rattle.cue_table.specs.Slots.{at, from, Place, rows_of}
-use Rattle.cue_table.specs.Form.{IsTaken}
+use Rattle.cue_table.specs.Form.{IsTreeTaken}
 use Rattle.cue_table.specs.Inner.Loose.{IsLoose, AreLoose, IsLooseRest}
 use Rattle.cue_table.specs.Rows.{kept_rest, kept_row}
 use Rattle.cue_table.proofs.Branches.{find_first}
@@ -15,7 +15,7 @@ use Rattle.cue_table.proofs.Listed.{Is, kept_in, rest_kept, rest_is, rows_listed
 
 module _ {R : Type 0} (P : R → Type 0) where
   -- in each branch that is not empty a row is kept
-  pub taken_kept : (tree : Tree R) → IsTaken tree → IsLoose P tree → (place : Place) × (row : R) × (kept_row tree place ≡ Some row)
+  pub taken_kept : (tree : Tree R) → IsTreeTaken tree → IsLoose P tree → (place : Place) × (row : R) × (kept_row tree place ≡ Some row)
   taken_kept (node (Some row) children rest) t h = ([], row, refl)
   taken_kept (node None none no_rest) t h = absurd t
   taken_kept (node None none (onward n tree)) t h =
@@ -34,18 +34,18 @@ module _ {R : Type 0} (P : R → Type 0) where
   IsKnown tree = (other : Tree R) → IsLoose P other → SameKept tree other → tree ≡ other
 
   abbrev IsFound : Option (Tree R) → Type 0
-  IsFound found = (tree : Tree R) → found ≡ Some tree → IsTaken tree × IsLoose P tree
+  IsFound found = (tree : Tree R) → found ≡ Some tree → IsTreeTaken tree × IsLoose P tree
 
   own_found : (children : Children R) (step : Step) → AreLoose P children → IsFound (find step children)
   own_found none step h tree e = cc
   own_found (child next here children) step h tree e =
-      found_here (λ t. IsTaken t × IsLoose P t) (step_cmp step next) here (find step children) tree (h.1, h.2) (λ f. own_found children step h.3 tree f) e
+      found_here (λ t. IsTreeTaken t × IsLoose P t) (step_cmp step next) here (find step children) tree (h.1, h.2) (λ f. own_found children step h.3 tree f) e
 
   rest_found : (rest : Rest R) (n : ℕ) → IsLooseRest P rest → IsFound (kept_rest n rest)
   rest_found no_rest n h tree e = cc
-  rest_found (onward m here) n h tree e = subst (λ t. IsTaken t × IsLoose P t) (rest_is n m here tree e).1 h
+  rest_found (onward m here) n h tree e = subst (λ t. IsTreeTaken t × IsLoose P t) (rest_is n m here tree e).1 h
 
-  silent_kept : (tree : Tree R) → IsTaken tree → IsLoose P tree → ((place : Place) → kept_row tree place ≡ None) → ⊥
+  silent_kept : (tree : Tree R) → IsTreeTaken tree → IsLoose P tree → ((place : Place) → kept_row tree place ≡ None) → ⊥
   silent_kept tree t h silent =
       let some = taken_kept tree t h in
       let no : None ≡ Some some.1 = sym (silent some.0) ∙ some.2 in

@@ -8,13 +8,13 @@ use Rattle.std.specs.declared.cmp.Ordering.TheVariants.{Less, Equal, Greater}
 use Rattle.std.specs.List.Sorted.{IsNonDecreasingBy, IsBinarySearchResult, IsSearchInRange}
 use Rattle.std.specs.Ordering.{nat_cmp}
 use Rattle.cue_lattice.specs.Path.{index}
-use Rattle.cue_table.specs.declared.node.Run.{Run}
+use Rattle.cue_table.specs.declared.node.ElementRun.{ElementRun}
 use Rattle.cue_table.specs.Tree.{Tree, Children, find}
-use Rattle.cue_table.specs.Form.{IsBelowAll}
-use Rattle.cue_table.specs.Inner.Form.{Rise}
-use Rattle.cue_table.specs.Spans.{alike}
+use Rattle.cue_table.specs.Form.{IsStepBelowAll}
+use Rattle.cue_table.specs.Inner.Form.{StepsRise}
+use Rattle.cue_table.specs.Spans.{alike_elements}
 use Rattle.cue_table.specs.Inner.Alike.{AreAlike, IsRun, IsBetween, run_cmp}
-use Rattle.cue_table.specs.Inner.Join.{join}
+use Rattle.cue_table.specs.Inner.Join.{join_children}
 use Rattle.cue_table.specs.Inner.View.{last_of, more_of, run_branches}
 use Rattle.cue_table.proofs.Branches.{below_all, find_below}
 use Rattle.cue_table.proofs.Joined.{alike_find, alike_join, alike_past, alike_rise, below_alike}
@@ -78,25 +78,25 @@ rank_order number first last i j l h k = elim (cases_lt last number) [
     most Equal = omega arith
     most Greater = omega arith
 
-below_more : {R : Type 0} (j i m : ℕ) (tree : Tree R) (others : Children R) → j < i → Rise (alike i m tree others) → IsBelowAll (index j) (alike i m tree others)
+below_more : {R : Type 0} (j i m : ℕ) (tree : Tree R) (others : Children R) → j < i → StepsRise (alike_elements i m tree others) → IsStepBelowAll (index j) (alike_elements i m tree others)
 below_more j i zero tree others l a = (less_number j i l, below_all (index j) (index i) others (less_number j i l) a.0)
 below_more j i (suc m) tree others l a = (less_number j i l, below_more j (suc i) m tree others (omega (arith, l)) a.1)
 
 module _ {R Q : Type 0} where
-  pub runs_join : (rs others : List (Run R Q)) → run_branches (rs ++ others) ≡ join (run_branches rs) (run_branches others)
+  pub runs_join : (rs others : List (ElementRun R Q)) → run_branches (rs ++ others) ≡ join_children (run_branches rs) (run_branches others)
   runs_join [] others = refl
-  runs_join (r ∷ rs) others = ap (alike r.first (more_of r.first r.more) r.node) (runs_join rs others) ∙ sym (alike_join r.first (more_of r.first r.more) r.node (run_branches rs) (run_branches others))
+  runs_join (r ∷ rs) others = ap (alike_elements r.first (more_of r.first r.more) r.node) (runs_join rs others) ∙ sym (alike_join r.first (more_of r.first r.more) r.node (run_branches rs) (run_branches others))
 
   -- an element that stands behind all of a run stands before none that is behind it
-  below_first : (n : ℕ) (r : Run R Q) (rs : List (Run R Q)) → IsBelowAll (index n) (run_branches (r ∷ rs)) → n < r.first
+  below_first : (n : ℕ) (r : ElementRun R Q) (rs : List (ElementRun R Q)) → IsStepBelowAll (index n) (run_branches (r ∷ rs)) → n < r.first
   below_first n r rs h = number_less n r.first (below_alike (index n) r.first (more_of r.first r.more) r.node (run_branches rs) h).0
 
-  below_each : (n : ℕ) (rs : List (Run R Q)) (k : ℕ) (d : Run R Q) → IsBelowAll (index n) (run_branches rs) → k < length rs → n < (get_or rs k d).first
+  below_each : (n : ℕ) (rs : List (ElementRun R Q)) (k : ℕ) (d : ElementRun R Q) → IsStepBelowAll (index n) (run_branches rs) → k < length rs → n < (get_or rs k d).first
   below_each n [] k d h l = absurd (omega arith)
   below_each n (r ∷ rs) zero d h l = below_first n r rs h
   below_each n (r ∷ rs) (suc k) d h l = below_each n rs k d (below_alike (index n) r.first (more_of r.first r.more) r.node (run_branches rs) h).1 (omega arith)
 
-  ranks : (rs : List (Run R Q)) (number : ℕ) → Rise (run_branches rs) → IsNonDecreasingBy (λ r. ordering_index (run_cmp number r)) rs
+  ranks : (rs : List (ElementRun R Q)) (number : ℕ) → StepsRise (run_branches rs) → IsNonDecreasingBy (λ r. ordering_index (run_cmp number r)) rs
   ranks [] number a i j d h l = absurd (omega arith)
   ranks (r ∷ rs) number a zero zero d h l = omega arith
   ranks (r ∷ rs) number a zero (suc j) d h l =
@@ -109,7 +109,7 @@ module _ {R Q : Type 0} where
 
   -- what a binary search among runs answers
   pub run_searched :
-      (rs : List (Run R Q)) (number : ℕ) (r : Result ℕ ℕ) → Rise (run_branches rs) → IsSearchInRange r (length rs) → IsBinarySearchResult (run_cmp number) rs r
+      (rs : List (ElementRun R Q)) (number : ℕ) (r : Result ℕ ℕ) → StepsRise (run_branches rs) → IsSearchInRange r (length rs) → IsBinarySearchResult (run_cmp number) rs r
       → MatchResult r (IsRun rs number) (IsBetween rs number)
   run_searched rs number (Ok at) a bound found = record { in_range = bound; here = found }
   run_searched rs number (Err at) a bound found =
@@ -117,7 +117,7 @@ module _ {R Q : Type 0} where
       record { in_range = bound; before = λ k d l. point.0 k d (omega arith) l; behind = λ k d low l. point.1 k d low l }
 
   -- an element of a run is found
-  found_in : (rs : List (Run R Q)) (at j : ℕ) (d : Run R Q) → Rise (run_branches rs) → at < length rs → (get_or rs at d).first ≤ j → j ≤ last_of (get_or rs at d).first (get_or rs at d).more
+  found_in : (rs : List (ElementRun R Q)) (at j : ℕ) (d : ElementRun R Q) → StepsRise (run_branches rs) → at < length rs → (get_or rs at d).first ≤ j → j ≤ last_of (get_or rs at d).first (get_or rs at d).more
       → find (index j) (run_branches rs) ≡ Some (get_or rs at d).node
   found_in [] at j d a l low high = absurd (omega arith)
   found_in (r ∷ rs) zero j d a l low high = alike_find r.first (more_of r.first r.more) j r.node (run_branches rs) low high
@@ -126,50 +126,50 @@ module _ {R Q : Type 0} where
       let less = below_each (last_of r.first r.more) rs at d parts.0 (omega arith) in
       alike_past r.first (more_of r.first r.more) j r.node (run_branches rs) (omega (arith, less, low)) ∙ found_in rs at j d parts.1 (omega arith) low high
 
-  pub run_found : (rs : List (Run R Q)) (number at : ℕ) (d : Run R Q) → Rise (run_branches rs) → IsRun rs number at → find (index number) (run_branches rs) ≡ Some (get_or rs at d).node
+  pub run_found : (rs : List (ElementRun R Q)) (number at : ℕ) (d : ElementRun R Q) → StepsRise (run_branches rs) → IsRun rs number at → find (index number) (run_branches rs) ≡ Some (get_or rs at d).node
   run_found rs number at d a is =
       let within = equal_cmp (get_or rs at d).first (last_of (get_or rs at d).first (get_or rs at d).more) number (is.here d) in
       found_in rs at number d a is.in_range within.0 within.1
 
   -- runs that end before an element do not have it
-  passed : (rs : List (Run R Q)) (at j : ℕ) → at ≤ length rs → ((k : ℕ) (d : Run R Q) → k < at → last_of (get_or rs k d).first (get_or rs k d).more < j) → find (index j) (run_branches rs) ≡ find (index j) (run_branches (drop at rs))
+  passed : (rs : List (ElementRun R Q)) (at j : ℕ) → at ≤ length rs → ((k : ℕ) (d : ElementRun R Q) → k < at → last_of (get_or rs k d).first (get_or rs k d).more < j) → find (index j) (run_branches rs) ≡ find (index j) (run_branches (drop at rs))
   passed rs zero j l h = refl
   passed [] (suc at) j l h = absurd (omega arith)
   passed (r ∷ rs) (suc at) j l h =
       alike_past r.first (more_of r.first r.more) j r.node (run_branches rs) (h 0 r (omega arith)) ∙ passed rs at j (omega arith) (λ k d less. h (suc k) d (omega arith))
 
   -- and runs that begin behind it neither
-  rise_drop : (rs : List (Run R Q)) (at : ℕ) → Rise (run_branches rs) → Rise (run_branches (drop at rs))
+  rise_drop : (rs : List (ElementRun R Q)) (at : ℕ) → StepsRise (run_branches rs) → StepsRise (run_branches (drop at rs))
   rise_drop rs zero a = a
   rise_drop [] (suc at) a = tt
   rise_drop (r ∷ rs) (suc at) a = rise_drop rs at (alike_rise r.first (more_of r.first r.more) r.node (run_branches rs) a).1
 
-  below_runs : (j : ℕ) (rs : List (Run R Q)) → Rise (run_branches rs) → ((d : Run R Q) → 0 < length rs → j < (get_or rs 0 d).first) → IsBelowAll (index j) (run_branches rs)
+  below_runs : (j : ℕ) (rs : List (ElementRun R Q)) → StepsRise (run_branches rs) → ((d : ElementRun R Q) → 0 < length rs → j < (get_or rs 0 d).first) → IsStepBelowAll (index j) (run_branches rs)
   below_runs j [] a h = tt
   below_runs j (r ∷ rs) a h = below_more j r.first (more_of r.first r.more) r.node (run_branches rs) (h r (omega arith)) a
 
-  get_drop : (rs : List (Run R Q)) (at : ℕ) (d : Run R Q) → get_or (drop at rs) 0 d ≡ get_or rs at d
+  get_drop : (rs : List (ElementRun R Q)) (at : ℕ) (d : ElementRun R Q) → get_or (drop at rs) 0 d ≡ get_or rs at d
   get_drop rs zero d = refl
   get_drop [] (suc at) d = refl
   get_drop (r ∷ rs) (suc at) d = get_drop rs at d
 
-  len_drop : (rs : List (Run R Q)) (at : ℕ) → 0 < length (drop at rs) → at < length rs
+  len_drop : (rs : List (ElementRun R Q)) (at : ℕ) → 0 < length (drop at rs) → at < length rs
   len_drop rs zero l = l
   len_drop [] (suc at) l = absurd (omega arith)
   len_drop (r ∷ rs) (suc at) l = let less = len_drop rs at l in omega arith
 
-  gap_none : (rs : List (Run R Q)) (number at j : ℕ) → Rise (run_branches rs) → IsBetween rs number at → number ≤ j → ((d : Run R Q) → at < length rs → j < (get_or rs at d).first) → find (index j) (run_branches rs) ≡ None
+  gap_none : (rs : List (ElementRun R Q)) (number at j : ℕ) → StepsRise (run_branches rs) → IsBetween rs number at → number ≤ j → ((d : ElementRun R Q) → at < length rs → j < (get_or rs at d).first) → find (index j) (run_branches rs) ≡ None
   gap_none rs number at j a is l h =
       passed rs at j is.in_range (λ k d less. let low = less_cmp (get_or rs k d).first (last_of (get_or rs k d).first (get_or rs k d).more) number (is.before k d less) in omega (arith, low, l))
       ∙ find_below (index j) (run_branches (drop at rs))
-      (below_runs j (drop at rs) (rise_drop rs at a) (λ d less. subst (λ (r : Run R Q). j < r.first) (sym (get_drop rs at d)) (h d (len_drop rs at less))))
+      (below_runs j (drop at rs) (rise_drop rs at a) (λ d less. subst (λ (r : ElementRun R Q). j < r.first) (sym (get_drop rs at d)) (h d (len_drop rs at less))))
 
-  pub run_missing : (rs : List (Run R Q)) (number at : ℕ) → Rise (run_branches rs) → IsBetween rs number at → find (index number) (run_branches rs) ≡ None
+  pub run_missing : (rs : List (ElementRun R Q)) (number at : ℕ) → StepsRise (run_branches rs) → IsBetween rs number at → find (index number) (run_branches rs) ≡ None
   run_missing rs number at a is =
       gap_none rs number at number a is (omega arith) (λ d l. greater_cmp (get_or rs at d).first (last_of (get_or rs at d).first (get_or rs at d).more) number (is.behind at d (omega arith) l))
 
   -- ---- up to where the elements are alike
-  pub alike_run : (rs : List (Run R Q)) (number at : ℕ) (d : Run R Q) → Rise (run_branches rs) → IsRun rs number at → AreAlike number (last_of (get_or rs at d).first (get_or rs at d).more + 1) (λ i. find (index i) (run_branches rs))
+  pub alike_run : (rs : List (ElementRun R Q)) (number at : ℕ) (d : ElementRun R Q) → StepsRise (run_branches rs) → IsRun rs number at → AreAlike number (last_of (get_or rs at d).first (get_or rs at d).more + 1) (λ i. find (index i) (run_branches rs))
   alike_run rs number at d a is =
       let within = equal_cmp (get_or rs at d).first (last_of (get_or rs at d).first (get_or rs at d).more) number (is.here d) in
       record {
@@ -177,11 +177,11 @@ module _ {R Q : Type 0} where
         same = λ i low high. found_in rs at i d a is.in_range (omega (arith, within.0, low)) (omega (arith, high)) ∙ sym (run_found rs number at d a is);
       }
 
-  pub alike_gap : (rs : List (Run R Q)) (number at to : ℕ) → Rise (run_branches rs) → IsBetween rs number at → number < to → ((d : Run R Q) → at < length rs → to ≤ (get_or rs at d).first) → AreAlike number to (λ i. find (index i) (run_branches rs))
+  pub alike_gap : (rs : List (ElementRun R Q)) (number at to : ℕ) → StepsRise (run_branches rs) → IsBetween rs number at → number < to → ((d : ElementRun R Q) → at < length rs → to ≤ (get_or rs at d).first) → AreAlike number to (λ i. find (index i) (run_branches rs))
   alike_gap rs number at to a is l h = record {
     behind = l;
     same = λ i low high. gap_none rs number at i a is low (λ d less. omega (arith, high, h d less)) ∙ sym (run_missing rs number at a is);
   }
 
-  pub behind_gap : (rs : List (Run R Q)) (number at : ℕ) (d : Run R Q) → IsBetween rs number at → at < length rs → number < (get_or rs at d).first
+  pub behind_gap : (rs : List (ElementRun R Q)) (number at : ℕ) (d : ElementRun R Q) → IsBetween rs number at → at < length rs → number < (get_or rs at d).first
   behind_gap rs number at d is l = greater_cmp (get_or rs at d).first (last_of (get_or rs at d).first (get_or rs at d).more) number (is.behind at d (omega arith) l)

@@ -5,20 +5,20 @@ use Rattle.cue_lattice.specs.Path as paths
 use Rattle.cue_lattice.specs.Path.{label, index, Path}
 use Rattle.cue_table.specs.Inner.Child.{Child}
 use Rattle.cue_table.specs.declared.node.Onward.{Onward}
-use Rattle.cue_table.specs.declared.node.Run.{Run}
-use Rattle.cue_table.specs.Tree.{Tree, node, Children, none, Rest, no_rest, onward, row_of, rest_of, rest_tree, fixed_of, find, find_with, step_into}
+use Rattle.cue_table.specs.declared.node.ElementRun.{ElementRun}
+use Rattle.cue_table.specs.Tree.{Tree, node, Children, none, Rest, no_rest, onward, row_of, rest_below, rest_at, fixed_of, find, find_with, step_into}
 use Rattle.cue_table.specs.Depth.{tree_depth}
-use Rattle.cue_table.specs.Form.{IsRow, IsTaken, IsTree, AreBranches, AreWithin, Differs, IsRestOf, IsKept, IsTable}
+use Rattle.cue_table.specs.Form.{IsTableRow, IsTreeTaken, IsTree, AreBranches, AreWithinDepth, DiffersFromRest, IsRestOf, IsRowKept, IsTable}
 use Rattle.cue_table.specs.Meet.{IsMet, IsUnion}
 use Rattle.cue_table.specs.Inner.Meet.{IsMerge}
 use Rattle.cue_table.specs.Refuses.{RowRefuses}
-use Rattle.cue_table.specs.Spans.{alike}
+use Rattle.cue_table.specs.Spans.{alike_elements}
 use Rattle.cue_table.specs.Inner.Alike.{AreAlike}
-use Rattle.cue_table.specs.Inner.Join.{join}
+use Rattle.cue_table.specs.Inner.Join.{join_children}
 use Rattle.cue_table.specs.Inner.Rests.{AreElements, AreElementsMet, AreMetRests, IsBranch, IsSettled}
 use Rattle.cue_table.specs.Inner.Runs.{AreFrom}
 use Rattle.cue_table.specs.Inner.Sides.{IsAt}
-use Rattle.cue_table.specs.declared.lists.Side.{Side}
+use Rattle.cue_table.specs.declared.lists.ListSide.{ListSide}
 use Rattle.std.specs.Prelude.{Box}
 use Rattle.std.specs.Global.{Global}
 use Rattle.cue_table.specs.declared.node.Node.TheInside.{Inside}
@@ -34,12 +34,12 @@ use Rattle.cue_table.proofs.Settling.{alike_none, found_low, found_high, one_mor
 
 module _ {R : Type 0} where
   -- from the index on from which all elements are alike, the rest answers
-  pub rest_reached : (P : R → Type 0) (tree : Tree R) (i : ℕ) → IsTree P tree → fixed_of tree ≤ i → step_into tree (index i) ≡ rest_tree (rest_of tree)
+  pub rest_reached : (P : R → Type 0) (tree : Tree R) (i : ℕ) → IsTree P tree → fixed_of tree ≤ i → step_into tree (index i) ≡ rest_at (rest_below tree)
   rest_reached P (node row children no_rest) i h l = none_within i i children (within_last i children l) (omega arith)
   rest_reached P (node row children (onward n tree)) i h l = find_rest n tree children i l
 
   -- where nothing is the rest, there is none
-  pub no_tree : (rest : Rest R) → rest_tree rest ≡ None → rest ≡ no_rest
+  pub no_tree : (rest : Rest R) → rest_at rest ≡ None → rest ≡ no_rest
   no_tree no_rest e = refl
   no_tree (onward n tree) e = cc
 
@@ -52,7 +52,7 @@ module _ {R : Type 0} where
   step_depth tree step None e = omega arith
   step_depth (node row children rest) step (Some found) e = let less = depth_with rest step children found (sym e) in omega (arith, less)
 
-  pub rest_depth : (tree : Tree R) (found : Option (Tree R)) → found ≡ rest_tree (rest_of tree) → found_depth found ≤ tree_depth tree
+  pub rest_depth : (tree : Tree R) (found : Option (Tree R)) → found ≡ rest_at (rest_below tree) → found_depth found ≤ tree_depth tree
   rest_depth tree None e = omega arith
   rest_depth (node row children no_rest) (Some found) e = cc
   rest_depth (node row children (onward n tree)) (Some found) e = let same : found ≡ tree = cc in subst (λ t. tree_depth t + 1 ≤ tree_depth (node row children (onward n tree))) (sym same) (omega arith)
@@ -61,11 +61,11 @@ module _ {R : Type 0} where
   step_branch P tree step None h e = tt
   step_branch P tree step (Some found) h e = found_form P step tree found h (sym e)
 
-  pub rest_branch : (P : R → Type 0) (tree : Tree R) (found : Option (Tree R)) → IsTree P tree → found ≡ rest_tree (rest_of tree) → IsBranch P found
+  pub rest_branch : (P : R → Type 0) (tree : Tree R) (found : Option (Tree R)) → IsTree P tree → found ≡ rest_at (rest_below tree) → IsBranch P found
   rest_branch P tree None h e = tt
   rest_branch P (node row children no_rest) (Some found) h e = cc
   rest_branch P (node row children (onward n tree)) (Some found) h e =
-      let same : found ≡ tree = cc in subst (λ t. IsTaken t × IsTree P t) (sym same) (h.2.2, h.2.3)
+      let same : found ≡ tree = cc in subst (λ t. IsTreeTaken t × IsTree P t) (sym same) (h.2.2, h.2.3)
 
 module _ {R : Type 0} where
   -- what is found is alike further on, where it goes on as it begins
@@ -95,7 +95,7 @@ module _ {R S : Type 0} (refuses : R → S → Type 0) where
 
   -- the same from side to side
   pub stretch_at :
-      {Q : Type 0} (left right : Tree R) (fixed first at end : ℕ) (one other : Side R Q) (found : Option (Tree R)) → IsAt left at one → IsAt right at other → first ≡ at → end ≤ fixed
+      {Q : Type 0} (left right : Tree R) (fixed first at end : ℕ) (one other : ListSide R Q) (found : Option (Tree R)) → IsAt left at one → IsAt right at other → first ≡ at → end ≤ fixed
       → AreAlike first end (λ i. step_into one.place.now (index i)) → AreAlike first end (λ i. step_into other.place.now (index i))
       → AreMetRests refuses (step_into one.place.now (index first)) (step_into other.place.now (index first)) found → IsStretch left right fixed at end found
   stretch_at left right fixed first at end one other found a b e low h k met =
@@ -108,20 +108,20 @@ module _ {R S : Type 0} (refuses : R → S → Type 0) where
 
 module _ {R Q S : Type 0} (refuses : R → S → Type 0) (is_value : R → Type 0) where
   -- The elements of both places before an index are met in these runs.
-  pub record Sweeps (left right : Tree R) (fixed : ℕ) (runs : List (Run R Q)) (at : ℕ) : Type 0 where
+  pub record IsMetUpTo (left right : Tree R) (fixed : ℕ) (runs : List (ElementRun R Q)) (at : ℕ) : Type 0 where
     pub low : at ≤ fixed
-    pub elements : AreElements (IsKept refuses is_value) at (run_branches runs)
+    pub elements : AreElements (IsRowKept refuses is_value) at (run_branches runs)
     pub met : (i : ℕ) → i < at → AreMetRests refuses (step_into left (index i)) (step_into right (index i)) (find (index i) (run_branches runs))
 
-  pub sweeps_start : (left right : Tree R) (fixed : ℕ) (runs : List (Run R Q)) → runs ≡ [] → Sweeps left right fixed runs 0
+  pub sweeps_start : (left right : Tree R) (fixed : ℕ) (runs : List (ElementRun R Q)) → runs ≡ [] → IsMetUpTo left right fixed runs 0
   sweeps_start left right fixed runs e = record {
     low = omega arith;
-    elements = subst (λ rs. AreElements (IsKept refuses is_value) 0 (run_branches rs)) (sym e) (record { form = tt; within = tt; indexes = tt });
+    elements = subst (λ rs. AreElements (IsRowKept refuses is_value) 0 (run_branches rs)) (sym e) (record { form = tt; within = tt; indexes = tt });
     met = λ i l. absurd (omega (arith, l));
   }
 
   -- where nothing is known of them
-  pub sweeps_gap : (left right : Tree R) (fixed : ℕ) (runs : List (Run R Q)) (at end : ℕ) (found : Option (Tree R)) → Sweeps left right fixed runs at → IsStretch refuses left right fixed at end found → found ≡ None → Sweeps left right fixed runs end
+  pub sweeps_gap : (left right : Tree R) (fixed : ℕ) (runs : List (ElementRun R Q)) (at end : ℕ) (found : Option (Tree R)) → IsMetUpTo left right fixed runs at → IsStretch refuses left right fixed at end found → found ≡ None → IsMetUpTo left right fixed runs end
   sweeps_gap left right fixed runs at end found s is e =
       let within = within_more at end (run_branches runs) (omega (arith, is.behind)) s.elements.within in
       record {
@@ -135,23 +135,23 @@ module _ {R Q S : Type 0} (refuses : R → S → Type 0) (is_value : R → Type 
 
   -- where they are one run more
   pub sweeps_run :
-      (left right : Tree R) (fixed : ℕ) (runs after : List (Run R Q)) (r : Run R Q) (at end : ℕ) (found : Option (Tree R)) → Sweeps left right fixed runs at → IsStretch refuses left right fixed at end found
-      → IsBranch (IsKept refuses is_value) found → found ≡ Some r.node → after ≡ runs ++ r ∷ [] → r.first ≡ at → r.more ≡ end - 1 - at → end ≤ 2 ^ 32 → Sweeps left right fixed after end
+      (left right : Tree R) (fixed : ℕ) (runs after : List (ElementRun R Q)) (r : ElementRun R Q) (at end : ℕ) (found : Option (Tree R)) → IsMetUpTo left right fixed runs at → IsStretch refuses left right fixed at end found
+      → IsBranch (IsRowKept refuses is_value) found → found ≡ Some r.node → after ≡ runs ++ r ∷ [] → r.first ≡ at → r.more ≡ end - 1 - at → end ≤ 2 ^ 32 → IsMetUpTo left right fixed after end
   sweeps_run left right fixed runs after r at end found s is h e f first more fits =
-      let branch : IsTaken r.node × IsTree (IsKept refuses is_value) r.node = subst (IsBranch (IsKept refuses is_value)) e h in
+      let branch : IsTreeTaken r.node × IsTree (IsRowKept refuses is_value) r.node = subst (IsBranch (IsRowKept refuses is_value)) e h in
       let a = run_branches runs in
       let m = more_of r.first r.more in
       let count : at + m ≡ end - 1 = omega (arith, first, more, fits, is.behind) in
-      let b = alike at m r.node none in
-      let all : run_branches after ≡ join a b = ap run_branches f ∙ one_more runs r ∙ ap (λ n. join a (alike n m r.node none)) first in
-      let own = alike_form (IsKept refuses is_value) at m r.node branch.0 branch.1 in
+      let b = alike_elements at m r.node none in
+      let all : run_branches after ≡ join_children a b = ap run_branches f ∙ one_more runs r ∙ ap (λ n. join_children a (alike_elements n m r.node none)) first in
+      let own = alike_form (IsRowKept refuses is_value) at m r.node branch.0 branch.1 in
       let before = before_from at a b s.elements.within own.1 in
-      let found_at : (i : ℕ) → find (index i) (run_branches after) ≡ find (index i) (join a b) = λ i. ap (find (index i)) all in
+      let found_at : (i : ℕ) → find (index i) (run_branches after) ≡ find (index i) (join_children a b) = λ i. ap (find (index i)) all in
       record {
         low = is.low;
         elements = record {
-          form = subst (AreBranches (IsKept refuses is_value)) (sym all) (join_form (IsKept refuses is_value) a b s.elements.form own.0 before);
-          within = subst (AreWithin end) (sym all) (within_join end a b (within_more at end a (omega (arith, is.behind)) s.elements.within) (alike_within end at m r.node (omega (arith, count, is.behind))));
+          form = subst (AreBranches (IsRowKept refuses is_value)) (sym all) (join_form (IsRowKept refuses is_value) a b s.elements.form own.0 before);
+          within = subst (AreWithinDepth end) (sym all) (within_join end a b (within_more at end a (omega (arith, is.behind)) s.elements.within) (alike_within end at m r.node (omega (arith, count, is.behind))));
           indexes = subst (AreFrom 0) (sym all) (from_join 0 a b s.elements.indexes (from_less 0 at b (omega arith) own.1));
         };
         met = λ i l. elim (cases_lt i at) [
@@ -166,9 +166,9 @@ module _ {R Q S : Type 0} (refuses : R → S → Type 0) (is_value : R → Type 
 
   -- the elements and the rest of both places are met
   pub sweeps_end :
-      (left right : Tree R) (fixed at : ℕ) (runs : List (Run R Q)) (x y : Option (Tree R)) (tree : Tree R) (made : Onward R Q) → Sweeps left right fixed runs at → fixed ≤ at
-      → IsTable refuses is_value left → IsTable refuses is_value right → fixed_of left ≤ fixed → fixed_of right ≤ fixed → x ≡ rest_tree (rest_of left) → y ≡ rest_tree (rest_of right)
-      → AreMetRests refuses x y (Some tree) → IsSettled (IsKept refuses is_value) fixed (run_branches runs) tree made → AreElementsMet refuses (IsKept refuses is_value) left right made
+      (left right : Tree R) (fixed at : ℕ) (runs : List (ElementRun R Q)) (x y : Option (Tree R)) (tree : Tree R) (made : Onward R Q) → IsMetUpTo left right fixed runs at → fixed ≤ at
+      → IsTable refuses is_value left → IsTable refuses is_value right → fixed_of left ≤ fixed → fixed_of right ≤ fixed → x ≡ rest_at (rest_below left) → y ≡ rest_at (rest_below right)
+      → AreMetRests refuses x y (Some tree) → IsSettled (IsRowKept refuses is_value) fixed (run_branches runs) tree made → AreElementsMet refuses (IsRowKept refuses is_value) left right made
   sweeps_end left right fixed at runs x y tree made s ends h k low high e f rests is = record {
     form = is.form;
     indexes = is.indexes;
@@ -176,39 +176,39 @@ module _ {R Q S : Type 0} (refuses : R → S → Type 0) (is_value : R → Type 
     met = λ i. elim (cases_lt i fixed) [
       | inl under ↦ λ path. union_as refuses _ _ _ _ _ _ path refl refl (is.same i ∙ found_low fixed i (Some tree) (run_branches runs) under) (s.met i (omega (arith, under, ends)) path)
       | inr above ↦ λ path.
-          union_as refuses _ _ _ _ _ _ path (rest_reached (IsKept refuses is_value) left i h (omega (arith, above, low)) ∙ sym e) (rest_reached (IsKept refuses is_value) right i k (omega (arith, above, high)) ∙ sym f)
+          union_as refuses _ _ _ _ _ _ path (rest_reached (IsRowKept refuses is_value) left i h (omega (arith, above, low)) ∙ sym e) (rest_reached (IsRowKept refuses is_value) right i k (omega (arith, above, high)) ∙ sym f)
           (is.same i ∙ found_high fixed i (Some tree) (run_branches runs) above) (rests path)
     ];
   }
 
 -- ---- fields and elements as one place
 module _ {R : Type 0} where
-  from_alike : (i m : ℕ) (tree : Tree R) (others : Children R) → AreFrom 0 others → AreFrom 0 (alike i m tree others)
+  from_alike : (i m : ℕ) (tree : Tree R) (others : Children R) → AreFrom 0 others → AreFrom 0 (alike_elements i m tree others)
   from_alike i zero tree others h = (omega arith, h)
   from_alike i (suc m) tree others h = (omega arith, from_alike (suc i) m tree others h)
 
-  field_found : (text : List ℕ) (a b : Children R) → AreFrom 0 b → find (label text) (join a b) ≡ find (label text) a
+  field_found : (text : List ℕ) (a b : Children R) → AreFrom 0 b → find (label text) (join_children a b) ≡ find (label text) a
   field_found text a b h = find_either (label text) a b a none refl (no_label 0 text b h) ∙ ap (find (label text)) (join_none a)
 
-  differs_behind : (n : ℕ) (tree : Tree R) (a b : Children R) → AreWithin 0 a → Differs n tree b → Differs n tree (join a b)
+  differs_behind : (n : ℕ) (tree : Tree R) (a b : Children R) → AreWithinDepth 0 a → DiffersFromRest n tree b → DiffersFromRest n tree (join_children a b)
   differs_behind zero tree a b h d = tt
   differs_behind (suc i) tree a b h d = λ e. d (sym (find_later (index i) a b (no_element 0 i a (omega arith) h)) ∙ e)
 
   -- a list of fields and of elements behind them is in form
   pub list_form :
-      (P : R → Type 0) (row : Option R) (fields elements : Children R) (n : ℕ) (tree : Tree R) → IsRow P row → AreBranches P fields → AreWithin 0 fields → AreBranches P elements → AreFrom 0 elements
-      → IsRestOf P elements (onward n tree) → IsTree P (node row (join fields elements) (onward n tree))
+      (P : R → Type 0) (row : Option R) (fields elements : Children R) (n : ℕ) (tree : Tree R) → IsTableRow P row → AreBranches P fields → AreWithinDepth 0 fields → AreBranches P elements → AreFrom 0 elements
+      → IsRestOf P elements (onward n tree) → IsTree P (node row (join_children fields elements) (onward n tree))
   list_form P row fields elements n tree r f w e i k = (
     r,
     join_form P fields elements f e (before_from 0 fields elements w i),
     (within_join n fields elements (within_more 0 n fields (omega arith) w) k.0, differs_behind n tree fields elements w k.1, k.2, k.3, k.4),
   )
 
-  elements_into : (n : ℕ) (tree : Tree R) (fields elements : Children R) (i : ℕ) → AreWithin 0 fields → find_with (onward n tree) (index i) (join fields elements) ≡ find_with (onward n tree) (index i) elements
+  elements_into : (n : ℕ) (tree : Tree R) (fields elements : Children R) (i : ℕ) → AreWithinDepth 0 fields → find_with (onward n tree) (index i) (join_children fields elements) ≡ find_with (onward n tree) (index i) elements
   elements_into n tree fields elements i w = ap (λ found. if nat_lt i n then found else Some tree) (find_later (index i) fields elements (no_element 0 i fields (omega arith) w))
 
 module _ {R Q : Type 0} where
-  runs_from : (rs : List (Run R Q)) → AreFrom 0 (run_branches rs)
+  runs_from : (rs : List (ElementRun R Q)) → AreFrom 0 (run_branches rs)
   runs_from [] = tt
   runs_from (r ∷ rs) = from_alike r.first (more_of r.first r.more) r.node (run_branches rs) (runs_from rs)
 
@@ -225,8 +225,8 @@ module _ {R Q S : Type 0} (refuses : R → S → Type 0) (P : R → Type 0) wher
   pub list_met :
       (a b : Inside R Q) (s t : Tree R) (own others : List (Child R)) (row : Option R) (fields : Children R) (made : Onward R Q) → tree_of a ≡ s → tree_of b ≡ t
       → ((text : List ℕ) → find (label text) (branches own) ≡ find (label text) (branches a.children.items)) → ((text : List ℕ) → find (label text) (branches others) ≡ find (label text) (branches b.children.items))
-      → IsUnion (RowRefuses refuses a.row) (RowRefuses refuses b.row) (RowRefuses refuses row) → IsMerge refuses P (branches own) (branches others) fields → AreWithin 0 fields
-      → AreElementsMet refuses P s t made → IsMet refuses s t (node row (join fields (run_branches made.runs.items)) (onward made.from made.node))
+      → IsUnion (RowRefuses refuses a.row) (RowRefuses refuses b.row) (RowRefuses refuses row) → IsMerge refuses P (branches own) (branches others) fields → AreWithinDepth 0 fields
+      → AreElementsMet refuses P s t made → IsMet refuses s t (node row (join_children fields (run_branches made.runs.items)) (onward made.from made.node))
   list_met a b s t own others row fields made e f x y rows merge within elements [] question =
       subst (λ o. IsUnion (RowRefuses refuses (row_of o)) (RowRefuses refuses (row_of t)) (RowRefuses refuses row)) e
       (subst (λ o. IsUnion (RowRefuses refuses a.row) (RowRefuses refuses (row_of o)) (RowRefuses refuses row)) f rows) question

@@ -10,11 +10,11 @@ use Rattle.std.specs.declared.cmp.Ordering.TheVariants.{Less, Equal, Greater}
 use Rattle.cue_lattice.specs.Path.{Step, step_cmp}
 use Rattle.cue_table.specs.Form.{IsTree}
 use Rattle.cue_table.specs.Rows.{kept_rest}
-use Rattle.cue_table.specs.Slots.{Slot, at, from, slot_cmp, Place, behind, rows_of, rows_below, rows_onward}
+use Rattle.cue_table.specs.Slots.{Slot, at, from, slot_cmp, Place, row_behind, rows_of, rows_below, rows_onward}
 use Rattle.cue_table.specs.Tree.{Tree, node, Children, none, child, Rest, no_rest, onward, empty, find}
-use Rattle.cue_table.specs.Inner.Form.{Rise}
+use Rattle.cue_table.specs.Inner.Form.{StepsRise}
 use Rattle.cue_table.specs.Inner.Loose.{IsLoose}
-use Rattle.cue_table.specs.Inner.Opened.{closed, IsOpen, IsBeyond}
+use Rattle.cue_table.specs.Inner.Opened.{close_trees, IsOpen, IsBeyond}
 use Rattle.cue_table.specs.Inner.RowList.{last_cmp}
 use Rattle.cue_table.proofs.Branches.{find_before, find_past, find_below, find_first}
 use Rattle.cue_table.proofs.Closing.{rows_hung, slots_above}
@@ -54,18 +54,18 @@ module _ {R : Type 0} where
   under_both slot [] ys = refl
   under_both slot (x ∷ xs) ys = ap (picked_at slot x.0 x.1) (under_both slot xs ys) ∙ picked_at_both slot x.0 x.1 (under slot xs) (under slot ys)
 
-  under_same : (slot : Slot) (rows : List (Place × R)) → under slot (map (behind slot) rows) ≡ rows
+  under_same : (slot : Slot) (rows : List (Place × R)) → under slot (map (row_behind slot) rows) ≡ rows
   under_same slot [] = refl
-  under_same slot (row ∷ rows) = ap (λ o. picked o row (under slot (map (behind slot) rows))) (same_slot slot) ∙ ap (λ xs. row ∷ xs) (under_same slot rows)
+  under_same slot (row ∷ rows) = ap (λ o. picked o row (under slot (map (row_behind slot) rows))) (same_slot slot) ∙ ap (λ xs. row ∷ xs) (under_same slot rows)
 
   not_picked : (o : Ordering) (row : Place × R) (rows : List (Place × R)) → (o ≡ Equal → ⊥) → picked o row rows ≡ rows
   not_picked Less row rows h = refl
   not_picked Equal row rows h = absurd (h refl)
   not_picked Greater row rows h = refl
 
-  under_other : (slot other : Slot) (rows : List (Place × R)) → (slot_cmp slot other ≡ Equal → ⊥) → under slot (map (behind other) rows) ≡ []
+  under_other : (slot other : Slot) (rows : List (Place × R)) → (slot_cmp slot other ≡ Equal → ⊥) → under slot (map (row_behind other) rows) ≡ []
   under_other slot other [] h = refl
-  under_other slot other (row ∷ rows) h = not_picked (slot_cmp slot other) row (under slot (map (behind other) rows)) h ∙ under_other slot other rows h
+  under_other slot other (row ∷ rows) h = not_picked (slot_cmp slot other) row (under slot (map (row_behind other) rows)) h ∙ under_other slot other rows h
 
   under_own : (slot : Slot) (here : Option R) → under slot (map (λ r. ([], r)) (option_to_list here)) ≡ []
   under_own slot None = refl
@@ -82,32 +82,32 @@ module _ {R : Type 0} where
   or_empty None = empty
   or_empty (Some tree) = tree
 
-  under_step : (step : Step) (children : Children R) → Rise children → under (at step) (rows_below children) ≡ rows_of (or_empty (find step children))
+  under_step : (step : Step) (children : Children R) → StepsRise children → under (at step) (rows_below children) ≡ rows_of (or_empty (find step children))
   under_step step none rise = refl
   under_step step (child s t children) rise = by (step_cmp step s) refl (under_step step children rise.1)
     where
       by : (o : Ordering) → step_cmp step s ≡ o → under (at step) (rows_below children) ≡ rows_of (or_empty (find step children)) → under (at step) (rows_below (child s t children)) ≡ rows_of (or_empty (find step (child s t children)))
       by Less e later =
-          under_both (at step) (map (behind (at s)) (rows_of t)) (rows_below children)
+          under_both (at step) (map (row_behind (at s)) (rows_of t)) (rows_below children)
           ∙ ap (λ rows. rows ++ under (at step) (rows_below children)) (under_other (at step) (at s) (rows_of t) (λ f. let no : Less ≡ Equal = sym e ∙ f in cc))
           ∙ later ∙ ap (λ o. rows_of (or_empty o)) (sym (find_before step s t children e))
       by Greater e later =
-          under_both (at step) (map (behind (at s)) (rows_of t)) (rows_below children)
+          under_both (at step) (map (row_behind (at s)) (rows_of t)) (rows_below children)
           ∙ ap (λ rows. rows ++ under (at step) (rows_below children)) (under_other (at step) (at s) (rows_of t) (λ f. let no : Greater ≡ Equal = sym e ∙ f in cc))
           ∙ later ∙ ap (λ o. rows_of (or_empty o)) (sym (find_past step s t children e))
       by Equal e later =
           let same = equal_steps step s e in
           let gone : under (at step) (rows_below children) ≡ [] = later ∙ ap (λ o. rows_of (or_empty o)) (ap (λ x. find x children) same ∙ find_below s children rise.0) in
-          under_both (at step) (map (behind (at s)) (rows_of t)) (rows_below children)
-          ∙ (λ i. under (at step) (map (behind (at (sym same i))) (rows_of t)) ++ gone i)
-          ∙ append-nil (under (at step) (map (behind (at step)) (rows_of t)))
+          under_both (at step) (map (row_behind (at s)) (rows_of t)) (rows_below children)
+          ∙ (λ i. under (at step) (map (row_behind (at (sym same i))) (rows_of t)) ++ gone i)
+          ∙ append-nil (under (at step) (map (row_behind (at step)) (rows_of t)))
           ∙ under_same (at step) (rows_of t)
           ∙ ap (λ o. rows_of (or_empty o)) (sym (ap (λ x. find x (child s t children)) same ∙ find_first s t children))
 
   under_no_step : (n : ℕ) (children : Children R) → under (from n) (rows_below children) ≡ []
   under_no_step n none = refl
   under_no_step n (child s t children) =
-      under_both (from n) (map (behind (at s)) (rows_of t)) (rows_below children)
+      under_both (from n) (map (row_behind (at s)) (rows_of t)) (rows_below children)
       ∙ (λ i. under_other (from n) (at s) (rows_of t) (λ f. cc) i ++ under_no_step n children i)
 
   under_no_rest : (step : Step) (rest : Rest R) → under (at step) (rows_onward rest) ≡ []
@@ -119,7 +119,7 @@ module _ {R : Type 0} where
   under_rest n (onward m t) = by (nat_cmp n m) refl
     where
       here : n ≡ m → under (from n) (rows_onward (onward m t)) ≡ rows_of (or_empty (kept_rest n (onward m t)))
-      here e = (λ i. under (from n) (map (behind (from (sym e i))) (rows_of t))) ∙ under_same (from n) (rows_of t) ∙ ap (λ o. rows_of (or_empty o)) (sym (ap (λ k. kept_rest k (onward m t)) e ∙ rest_kept m t))
+      here e = (λ i. under (from n) (map (row_behind (from (sym e i))) (rows_of t))) ∙ under_same (from n) (rows_of t) ∙ ap (λ o. rows_of (or_empty o)) (sym (ap (λ k. kept_rest k (onward m t)) e ∙ rest_kept m t))
 
       gone : (n ≡ m → ⊥) → kept_rest n (onward m t) ≡ None
       gone d = grind (arith, nat_tests)
@@ -135,7 +135,7 @@ module _ {R : Type 0} where
       by Greater e = there (λ d. let eq : nat_cmp n m ≡ Equal = ap (nat_cmp n) (sym d) ∙ same_slot (from n) in let no : Greater ≡ Equal = sym e ∙ eq in cc)
 
   -- nothing stands at a slot that is behind all branches
-  first_before : (step s : Step) (t : Tree R) (children : Children R) → Rise (child s t children) → last_cmp step (child s t children) ≡ Less → step_cmp s step ≡ Less
+  first_before : (step s : Step) (t : Tree R) (children : Children R) → StepsRise (child s t children) → last_cmp step (child s t children) ≡ Less → step_cmp s step ≡ Less
   first_before step s t none rise l = l
   first_before step s t (child u v children) rise l = step_total.trans s u step rise.0.0 (first_before step u v children rise.1 l)
 
@@ -143,11 +143,11 @@ module _ {R : Type 0} where
   last_before step s t none l = refl
   last_before step s t (child u v children) l = l
 
-  under_behind : (step : Step) (children : Children R) → Rise children → last_cmp step children ≡ Less → under (at step) (rows_below children) ≡ []
+  under_behind : (step : Step) (children : Children R) → StepsRise children → last_cmp step children ≡ Less → under (at step) (rows_below children) ≡ []
   under_behind step none rise l = refl
   under_behind step (child s t children) rise l =
       let other = reverse_cmp s step Less (first_before step s t children rise l) in
-      under_both (at step) (map (behind (at s)) (rows_of t)) (rows_below children)
+      under_both (at step) (map (row_behind (at s)) (rows_of t)) (rows_below children)
       ∙ (λ i. under_other (at step) (at s) (rows_of t) (λ f. let no : Greater ≡ Equal = sym other ∙ f in cc) i ++ under_behind step children rise.1 (last_before step s t children l) i)
 
   module _ (P : R → Type 0) where
@@ -200,15 +200,15 @@ module _ {R : Type 0} where
   -- What is closed early is in form, if the rows are those of a tree in form, with rows beyond it behind them.
   pub closed_early :
       (P : R → Type 0) (front : List (Tree R × Slot)) (last tree : Tree R) (more : List (Place × R)) → AllByRecursion (IsOpen P) front → IsLoose P last → IsTree P tree
-      → AllByRecursion (λ (r : Place × R). IsBeyond (slots_above front) r.0) more → rows_of tree ≡ rows_of (closed front last) ++ more → IsTree P last
+      → AllByRecursion (λ (r : Place × R). IsBeyond (slots_above front) r.0) more → rows_of tree ≡ rows_of (close_trees front last) ++ more → IsTree P last
   closed_early P [] last tree [] h l k b e = subst (IsTree P) (same_lists P tree last (loosened P tree k) l (e ∙ append-nil (rows_of last))) k
   closed_early P [] last tree (row ∷ more) h l k b e = absurd b.0
   closed_early P (o ∷ front) last tree more h l k b e =
       let found = under_tree P tree o.1 k in
-      let branch : List (Place × R) = rows_of (closed front last) in
-      let whole : List (Place × R) = rows_of (closed (o ∷ front) last) in
+      let branch : List (Place × R) = rows_of (close_trees front last) in
+      let whole : List (Place × R) = rows_of (close_trees (o ∷ front) last) in
       let these : under o.1 whole ≡ branch =
-      ap (under o.1) (rows_hung o.0 o.1 (closed front last) h.0.rest) ∙ under_both o.1 (rows_of o.0) (map (behind o.1) branch)
+      ap (under o.1) (rows_hung o.0 o.1 (close_trees front last) h.0.rest) ∙ under_both o.1 (rows_of o.0) (map (row_behind o.1) branch)
       ∙ (λ i. under_open P o.0 o.1 h.0 i ++ under_same o.1 branch i) in
       closed_early P front last found.0 (under o.1 more) h.1 l found.1 (under_beyond o.1 (slots_above front) more b)
       (found.2 ∙ ap (under o.1) e ∙ under_both o.1 whole more ∙ ap (λ rows. rows ++ under o.1 more) these)

@@ -7,14 +7,14 @@ use Rattle.std.specs.declared.cmp.Ordering.{Ordering}
 use Rattle.std.specs.declared.cmp.Ordering.TheVariants.{Less, Equal, Greater}
 use Rattle.cue_lattice.specs.Limits.{step_limit}
 use Rattle.cue_lattice.specs.Path.{Step, label, index, step_cmp, Path}
-use Rattle.cue_row.specs.Row.{Refuses, IsRow}
+use Rattle.cue_row.specs.Row.{RefusesAsked, IsRow}
 use Rattle.cue_row.specs.ValidRow.{IsWordStep, IsValidRow}
 use Rattle.cue_row.specs.declared.parts.RowParts.{RowParts as Row}
 use Rattle.cue_row.specs.declared.level.Level.TheVariants.{Optional}
 use Rattle.cue_table.specs.Tree.{Tree, node, Children, none, child, Rest, no_rest, onward, row_of, empty, if_equal, find, find_with, branch_at, row_at, fixed_with}
 use Rattle.cue_table.specs.Depth.{tree_depth}
-use Rattle.cue_table.specs.Form.{IsTaken, IsTree, AreBranches, IsRestOf, IsKept, IsTable}
-use Rattle.cue_table.specs.Valid.{further, MayHold, IsOpenStruct, IsValidTable}
+use Rattle.cue_table.specs.Form.{IsTreeTaken, IsTree, AreBranches, IsRestOf, IsRowKept, IsTable}
+use Rattle.cue_table.specs.Valid.{path_below, MayHold, IsOpenStruct, IsValidTable}
 use Rattle.cue_table.specs.Inner.ValidWalk.{IsLevelAt, MayStand, HasChild, HasElement, IsSound, AreSound, IsRestSound}
 use Rattle.cue_table.proofs.Order.{equal_steps}
 use Rattle.cue_table.proofs.Branches.{find_first, find_rest, find_own}
@@ -22,7 +22,7 @@ use Rattle.cue_table.proofs.Depth.{found_row, row_found, found_later, taken_row,
 use Rattle.cue_table.proofs.Alike.{alike_from, fixed_alike}
 
 abbrev pub Kept : Row → Type 0
-Kept = IsKept Refuses IsRow
+Kept = IsRowKept RefusesAsked IsRow
 
 -- the row of a branch that may be there
 abbrev row_there : Option (Tree Row) → Option Row
@@ -32,10 +32,10 @@ row_there = option_and_then row_of
 record Rules (at : Path → Option (Tree Row)) : Type 0 where
   valid : (path : Path) (row : Row) → row_there (at path) ≡ Some row → IsValidRow row
   words : (path : Path) (row : Row) → row_there (at path) ≡ Some row → AllByRecursion IsWordStep path
-  levels : (path : Path) (n : ℕ) (row : Row) → row_there (at (further path (index n))) ≡ Some row → row.level ≡ Optional
-  parents : (path : Path) (step : Step) (row : Row) → row_there (at (further path step)) ≡ Some row → (parent : Row) × (row_there (at path) ≡ Some parent)
-  kinds : (path : Path) (step : Step) (parent row : Row) → row_there (at path) ≡ Some parent → row_there (at (further path step)) ≡ Some row → MayHold parent step
-  elements : (path : Path) (row : Row) (i j : ℕ) → row_there (at path) ≡ Some row → row.least ≤ i → row.least ≤ j → at (further path (index i)) ≡ at (further path (index j))
+  levels : (path : Path) (n : ℕ) (row : Row) → row_there (at (path_below path (index n))) ≡ Some row → row.level ≡ Optional
+  parents : (path : Path) (step : Step) (row : Row) → row_there (at (path_below path step)) ≡ Some row → (parent : Row) × (row_there (at path) ≡ Some parent)
+  kinds : (path : Path) (step : Step) (parent row : Row) → row_there (at path) ≡ Some parent → row_there (at (path_below path step)) ≡ Some row → MayHold parent step
+  elements : (path : Path) (row : Row) (i j : ℕ) → row_there (at path) ≡ Some row → row.least ≤ i → row.least ≤ j → at (path_below path (index i)) ≡ at (path_below path (index j))
 
 -- what they say of all rows they say of those below a step
 rules_further : (at : Path → Option (Tree Row)) (step : Step) → Rules at → Rules (λ path. at (step ∷ path))
@@ -52,17 +52,17 @@ rules_same : (a b : Path → Option (Tree Row)) → ((path : Path) → a path �
 rules_same a b same h = record {
   valid = λ path row e. h.valid path row (ap row_there (same path) ∙ e);
   words = λ path row e. h.words path row (ap row_there (same path) ∙ e);
-  levels = λ path n row e. h.levels path n row (ap row_there (same (further path (index n))) ∙ e);
-  parents = λ path next row e. let above = h.parents path next row (ap row_there (same (further path next)) ∙ e) in (above.0, sym (ap row_there (same path)) ∙ above.1);
-  kinds = λ path next parent row d e. h.kinds path next parent row (ap row_there (same path) ∙ d) (ap row_there (same (further path next)) ∙ e);
-  elements = λ path row i j e l m. sym (same (further path (index i))) ∙ h.elements path row i j (ap row_there (same path) ∙ e) l m ∙ same (further path (index j));
+  levels = λ path n row e. h.levels path n row (ap row_there (same (path_below path (index n))) ∙ e);
+  parents = λ path next row e. let above = h.parents path next row (ap row_there (same (path_below path next)) ∙ e) in (above.0, sym (ap row_there (same path)) ∙ above.1);
+  kinds = λ path next parent row d e. h.kinds path next parent row (ap row_there (same path) ∙ d) (ap row_there (same (path_below path next)) ∙ e);
+  elements = λ path row i j e l m. sym (same (path_below path (index i))) ∙ h.elements path row i j (ap row_there (same path) ∙ e) l m ∙ same (path_below path (index j));
 }
 
 -- a row stands above each row
 above : (at : Path → Option (Tree Row)) (path more : Path) (row : Row) → Rules at → row_there (at (path ++ more)) ≡ Some row → (parent : Row) × (row_there (at path) ≡ Some parent)
 above at path [] row h e = (row, ap (λ p. row_there (at p)) (sym (append-nil path)) ∙ e)
 above at path (step ∷ more) row h e =
-    let next = above at (further path step) more row h (ap (λ p. row_there (at p)) (append_assoc path (step ∷ []) more) ∙ e) in
+    let next = above at (path_below path step) more row h (ap (λ p. row_there (at p)) (append_assoc path (step ∷ []) more) ∙ e) in
     h.parents path step next.0 next.1
 
 level_at : (at : Path → Option (Tree Row)) (step : Step) (row : Row) → Rules at → row_there (at (step ∷ [])) ≡ Some row → IsLevelAt step row
@@ -71,7 +71,7 @@ level_at at (index n) row h e = h.levels [] n row e
 
 -- a branch one step below a row may stand there, and the rules hold below it
 step_sound :
-    (parent : Row) (at : Path → Option (Tree Row)) (step : Step) (tree : Tree Row) → IsTaken tree → IsTree Kept tree → Rules at → row_there (at []) ≡ Some parent
+    (parent : Row) (at : Path → Option (Tree Row)) (step : Step) (tree : Tree Row) → IsTreeTaken tree → IsTree Kept tree → Rules at → row_there (at []) ≡ Some parent
     → ((path : Path) → at (step ∷ path) ≡ branch_at tree path) → HasChild parent step (row_of tree) × Rules (branch_at tree)
 step_sound parent at step tree t h rules root here =
     let inner = rules_same (λ path. at (step ∷ path)) (branch_at tree) here (rules_further at step rules) in
@@ -99,7 +99,7 @@ one_below (Some tree) = refl
 
 mutual
   -- where the rules hold of the rows of a branch, a walk finds it right
-  sound : (tree : Tree Row) → IsTaken tree → IsTree Kept tree → Rules (branch_at tree) → IsSound tree
+  sound : (tree : Tree Row) → IsTreeTaken tree → IsTree Kept tree → Rules (branch_at tree) → IsSound tree
   sound (node None children rest) t h rules =
       let some = taken_row Kept (node None children rest) t h in
       let root = above (branch_at (node None children rest)) [] some.0 some.1 rules some.2 in
@@ -176,14 +176,14 @@ child_word parent step (Some row) h = h.word
 
 -- a walk found the row above each row, and that it may stand there
 sound_at :
-    (tree : Tree Row) (path : Path) (step : Step) (row : Row) → IsSound tree → row_at tree (further path step) ≡ Some row
+    (tree : Tree Row) (path : Path) (step : Step) (row : Row) → IsSound tree → row_at tree (path_below path step) ≡ Some row
     → (parent : Row) × (row_at tree path ≡ Some parent) × MayStand parent step row
 sound_at (node None children rest) path step row h e = absurd h
 sound_at (node (Some parent) children rest) [] step row h e =
     let found = row_found (find_with rest step children) [] row e in
     (parent, refl, subst (HasChild parent step) found.2 (sound_found parent rest step children found.0 h.2 h.3 found.1).0)
 sound_at (node (Some here) children rest) (next ∷ path) step row h e =
-    let found = row_found (find_with rest next children) (further path step) row e in
+    let found = row_found (find_with rest next children) (path_below path step) row e in
     let below = sound_at found.0 path step row (sound_found here rest next children found.0 h.2 h.3 found.1).1 found.2 in
     (below.0, ap (λ f. found_row f path) found.1 ∙ below.1, below.2)
 
@@ -200,7 +200,7 @@ sound_row (node (Some here) children rest) (step ∷ path) row h e =
 -- and that the elements of a list are alike from its least length on
 sound_elements :
     (tree : Tree Row) (path : Path) (row : Row) (i j : ℕ) → IsSound tree → row_at tree path ≡ Some row → row.least ≤ i → row.least ≤ j
-    → branch_at tree (further path (index i)) ≡ branch_at tree (further path (index j))
+    → branch_at tree (path_below path (index i)) ≡ branch_at tree (path_below path (index j))
 sound_elements (node None children rest) path row i j h e l m = absurd h
 sound_elements (node (Some here) children rest) [] row i j h e l m =
     let same : here ≡ row = cc in
@@ -209,15 +209,15 @@ sound_elements (node (Some here) children rest) [] row i j h e l m =
 sound_elements (node (Some here) children rest) (step ∷ path) row i j h e l m =
     let found = row_found (find_with rest step children) path row e in
     let below = sound_elements found.0 path row i j (sound_found here rest step children found.0 h.2 h.3 found.1).1 found.2 l m in
-    ap (λ f. option_and_then (λ branch. branch_at branch (further path (index i))) f) found.1 ∙ below
-    ∙ sym (ap (λ f. option_and_then (λ branch. branch_at branch (further path (index j))) f) found.1)
+    ap (λ f. option_and_then (λ branch. branch_at branch (path_below path (index i))) f) found.1 ∙ below
+    ∙ sym (ap (λ f. option_and_then (λ branch. branch_at branch (path_below path (index j))) f) found.1)
 
 one_row : (a : Option Row) (p q : Row) → a ≡ Some p → a ≡ Some q → p ≡ q
 one_row a p q d e = cc
 
 -- a table that a walk found right is valid
 sound_valid :
-    (tree : Tree Row) (row : Row) → IsTable Refuses IsRow tree → tree_depth tree ≤ step_limit → row_of tree ≡ Some row → IsOpenStruct row × (row.level ≡ Optional) → IsSound tree
+    (tree : Tree Row) (row : Row) → IsTable RefusesAsked IsRow tree → tree_depth tree ≤ step_limit → row_of tree ≡ Some row → IsOpenStruct row × (row.level ≡ Optional) → IsSound tree
     → IsValidTable tree
 sound_valid tree row form deep root top h = record {
   form = form;
@@ -246,7 +246,7 @@ rules_of tree h = record {
 pub row_above : (tree : Tree Row) (path more : Path) (row : Row) → IsValidTable tree → row_at tree (path ++ more) ≡ Some row → (parent : Row) × (row_at tree path ≡ Some parent)
 row_above tree path more row h e = above (branch_at tree) path more row (rules_of tree h) e
 
-taken_at : (tree : Tree Row) (row : Row) → row_of tree ≡ Some row → IsTaken tree
+taken_at : (tree : Tree Row) (row : Row) → row_of tree ≡ Some row → IsTreeTaken tree
 taken_at (node (Some here) children rest) row e = tt
 taken_at (node None children rest) row e = cc
 
@@ -266,7 +266,7 @@ valid_root tree row e h = (
 
 -- a table with a row at its root is valid just where that is one for a root and a walk finds the table right
 pub valid_walk :
-    (tree : Tree Row) (row : Row) → IsTable Refuses IsRow tree → tree_depth tree ≤ step_limit → row_of tree ≡ Some row
+    (tree : Tree Row) (row : Row) → IsTable RefusesAsked IsRow tree → tree_depth tree ≤ step_limit → row_of tree ≡ Some row
     → ((IsOpenStruct row × (row.level ≡ Optional)) × IsSound tree) ↔ IsValidTable tree
 valid_walk tree row form deep e = (
   λ h. sound_valid tree row form deep e h.0 h.1,

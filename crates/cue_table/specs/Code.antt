@@ -17,16 +17,16 @@ tail gnil = gnil
 tail (gnum n) = gnil
 tail (gcons a b) = b
 
-abbrev pub texts : Coded (List ℕ)
-texts = coded_list coded_ℕ
+abbrev pub texts_of_code : Coded (List ℕ)
+texts_of_code = coded_list coded_ℕ
 
 pub step_gv : Step → Gv
-step_gv (label text) = gcons (gnum 0) (texts.code text)
+step_gv (label text) = gcons (gnum 0) (texts_of_code.code text)
 step_gv (index number) = gcons (gnum 1) (gnum number)
 
 pub step_inj : (s t : Step) → step_gv s ≡ step_gv t → s ≡ t
 unfolding step_gv
-step_inj (label s) (label t) e = ap label (texts.inj s t (ap tail e))
+step_inj (label s) (label t) e = ap label (texts_of_code.inj s t (ap tail e))
 step_inj (index m) (index n) e = ap (λ g. index (num (tail g))) e
 step_inj (label s) (index n) e = cc
 step_inj (index m) (label t) e = cc
@@ -98,18 +98,18 @@ abbrev pub children_code : {R : Type 0} → Coded R → Coded (Children R)
 children_code c = record { code = children_gv c.code; inj = children_inj c }
 
 abbrev pub labels_code : {R : Type 0} → Coded R → Coded (List (List ℕ × Tree R))
-labels_code c = coded_list (coded× texts (tree_code c))
+labels_code c = coded_list (coded× texts_of_code (tree_code c))
 
 abbrev pub items_code : {R : Type 0} → Coded R → Coded (List (ℕ × Tree R))
 items_code c = coded_list (coded× coded_ℕ (tree_code c))
 
 pub span_gv : Span → Gv
-span_gv (field text) = gcons (gnum 0) (texts.code text)
+span_gv (field text) = gcons (gnum 0) (texts_of_code.code text)
 span_gv (elements first more) = gcons (gnum 1) (gcons (gnum first) (gnum more))
 
 pub span_inj : (s t : Span) → span_gv s ≡ span_gv t → s ≡ t
 unfolding span_gv
-span_inj (field s) (field t) e = ap field (texts.inj s t (ap tail e))
+span_inj (field s) (field t) e = ap field (texts_of_code.inj s t (ap tail e))
 span_inj (elements i m) (elements j n) e =
     let first : i ≡ j = ap (λ g. num (head (tail g))) e in
     let more : m ≡ n = ap (λ g. num (tail (tail g))) e in

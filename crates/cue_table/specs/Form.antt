@@ -6,9 +6,9 @@ use Rattle.cue_lattice.specs.Path.{Step, label, index, step_cmp}
 use Rattle.cue_table.specs.Tree.{Tree, node, Children, none, child, Rest, no_rest, onward, find}
 
 -- the step is before those of all branches
-abbrev pub IsBelowAll : {R : Type 0} → Step → Children R → Type 0
-IsBelowAll step none = Unit {0}
-IsBelowAll step (child next tree children) = (step_cmp step next ≡ Less) × IsBelowAll step children
+abbrev pub IsStepBelowAll : {R : Type 0} → Step → Children R → Type 0
+IsStepBelowAll step none = Unit {0}
+IsStepBelowAll step (child next tree children) = (step_cmp step next ≡ Less) × IsStepBelowAll step children
 
 -- the first step is no label
 abbrev pub StartsAtIndex : {R : Type 0} → Children R → Type 0
@@ -17,27 +17,27 @@ StartsAtIndex (child (label text) tree children) = ⊥
 StartsAtIndex (child (index number) tree children) = Unit {0}
 
 -- a row stands at the tree's place or below
-abbrev pub IsTaken : {R : Type 0} → Tree R → Type 0
-IsTaken (node (Some row) children rest) = Unit {0}
-IsTaken (node None none no_rest) = ⊥
-IsTaken (node None none (onward n tree)) = Unit {0}
-IsTaken (node None (child step tree children) rest) = Unit {0}
+abbrev pub IsTreeTaken : {R : Type 0} → Tree R → Type 0
+IsTreeTaken (node (Some row) children rest) = Unit {0}
+IsTreeTaken (node None none no_rest) = ⊥
+IsTreeTaken (node None none (onward n tree)) = Unit {0}
+IsTreeTaken (node None (child step tree children) rest) = Unit {0}
 
 -- where there is a row, P holds of it
-abbrev pub IsRow : {R : Type 0} → (R → Type 0) → Option R → Type 0
-IsRow P None = Unit {0}
-IsRow P (Some row) = P row
+abbrev pub IsTableRow : {R : Type 0} → (R → Type 0) → Option R → Type 0
+IsTableRow P None = Unit {0}
+IsTableRow P (Some row) = P row
 
 -- the elements among the branches stand below an index
-abbrev pub AreWithin : {R : Type 0} → ℕ → Children R → Type 0
-AreWithin n none = Unit {0}
-AreWithin n (child (label text) tree children) = AreWithin n children
-AreWithin n (child (index i) tree children) = (i < n) × AreWithin n children
+abbrev pub AreWithinDepth : {R : Type 0} → ℕ → Children R → Type 0
+AreWithinDepth n none = Unit {0}
+AreWithinDepth n (child (label text) tree children) = AreWithinDepth n children
+AreWithinDepth n (child (index i) tree children) = (i < n) × AreWithinDepth n children
 
 -- the element before an index differs from the rest
-abbrev pub Differs : {R : Type 0} → ℕ → Tree R → Children R → Type 0
-Differs zero rest children = Unit {0}
-Differs (suc i) rest children = find (index i) children ≢ Some rest
+abbrev pub DiffersFromRest : {R : Type 0} → ℕ → Tree R → Children R → Type 0
+DiffersFromRest zero rest children = Unit {0}
+DiffersFromRest (suc i) rest children = find (index i) children ≢ Some rest
 
 -- P holds of each row, the steps of branches rise at each place, no branch is empty, and a rest
 -- begins behind the elements of its own, the last of which differs from it, and not behind the last
@@ -45,21 +45,21 @@ Differs (suc i) rest children = find (index i) children ≢ Some rest
 abbrev mutual
   pub IsTree : {R : Type 0} → (R → Type 0) → Tree R → Type 0
   IsTree P (node row children rest) =
-      IsRow P row × AreBranches P children × IsRestOf P children rest
+      IsTableRow P row × AreBranches P children × IsRestOf P children rest
 
   pub AreBranches : {R : Type 0} → (R → Type 0) → Children R → Type 0
   AreBranches P none = Unit {0}
   AreBranches P (child step tree children) =
-      IsBelowAll step children × IsTaken tree × IsTree P tree × AreBranches P children
+      IsStepBelowAll step children × IsTreeTaken tree × IsTree P tree × AreBranches P children
 
   pub IsRestOf : {R : Type 0} → (R → Type 0) → Children R → Rest R → Type 0
   IsRestOf P children no_rest = Unit {0}
   IsRestOf P children (onward n tree) =
-      AreWithin n children × Differs n tree children × IsTaken tree × IsTree P tree × (n ≤ 2 ^ 32)
+      AreWithinDepth n children × DiffersFromRest n tree children × IsTreeTaken tree × IsTree P tree × (n ≤ 2 ^ 32)
 
 -- a row that is kept: a value of its type that refuses something
-abbrev pub IsKept : {R Q : Type 0} → (R → Q → Type 0) → (R → Type 0) → R → Type 0
-IsKept {R} {Q} refuses is_value row = is_value row × ¬ ((question : Q) → ¬ refuses row question)
+abbrev pub IsRowKept : {R Q : Type 0} → (R → Q → Type 0) → (R → Type 0) → R → Type 0
+IsRowKept {R} {Q} refuses is_value row = is_value row × ¬ ((question : Q) → ¬ refuses row question)
 
 abbrev pub IsTable : {R Q : Type 0} → (R → Q → Type 0) → (R → Type 0) → Tree R → Type 0
-IsTable refuses is_value = IsTree (IsKept refuses is_value)
+IsTable refuses is_value = IsTree (IsRowKept refuses is_value)

@@ -9,8 +9,8 @@ use Rattle.cue_table.specs.Tree.{Tree, empty}
 use Rattle.cue_table.specs.Refuses.{TableRefuses}
 
 -- the table refuses at each path exactly what one of the tables refuses there
-abbrev pub IsUnified : {R Q : Type 0} → (R → Q → Type 0) → List (Tree R) → Tree R → Type 0
-IsUnified {R} {Q} refuses tables met =
+abbrev pub AreUnified : {R Q : Type 0} → (R → Q → Type 0) → List (Tree R) → Tree R → Type 0
+AreUnified {R} {Q} refuses tables met =
     (path : Path) (question : Q)
     → TableRefuses refuses met path question
     ↔ OneOf (λ table. TableRefuses refuses table path question) tables
@@ -27,9 +27,9 @@ pub record IsOfBranches {R Q : Type 0} (refuses : R → Q → Type 0) (given : L
 
 -- the tree of the first stretch that begins at an index or before it; of a list of stretches, this
 -- is what the element with the index is
-abbrev pub element_of : {R : Type 0} → ℕ → List (ℕ × Tree R) → Tree R
-element_of i [] = empty
-element_of i ((start, tree) ∷ stretches) = if nat_lt i start then element_of i stretches else tree
+abbrev pub element_given : {R : Type 0} → ℕ → List (ℕ × Tree R) → Tree R
+element_given i [] = empty
+element_given i ((start, tree) ∷ stretches) = if nat_lt i start then element_given i stretches else tree
 
 -- The table refuses nothing at the root and at labels; and at an index and then a path exactly what
 -- the element that is given for the index refuses at the path.
@@ -40,4 +40,4 @@ pub record IsOfElements {R Q : Type 0} (refuses : R → Q → Type 0) (given : L
       → ¬ TableRefuses refuses table (label text ∷ path) question
   pub elements : (i : ℕ) (path : Path) (question : Q)
       → TableRefuses refuses table (index i ∷ path) question
-      ↔ TableRefuses refuses (element_of i given) path question
+      ↔ TableRefuses refuses (element_given i given) path question

@@ -24,8 +24,8 @@ IsAdded {R} {Q} refuses old path row new =
 
 -- below the list at a path, in an element from an index on, what is given for these elements
 -- refuses the question
-abbrev pub RestRefuses : {R Q : Type 0} → (R → Q → Type 0) → Path → ℕ → Tree R → Path → Q → Type 0
-RestRefuses refuses list first rest at question =
+abbrev pub RestOfMeetRefuses : {R Q : Type 0} → (R → Q → Type 0) → Path → ℕ → Tree R → Path → Q → Type 0
+RestOfMeetRefuses refuses list first rest at question =
     (i : ℕ) × (path : Path) × (at ≡ list ++ index i ∷ path) × (first ≤ i)
     × TableRefuses refuses rest path question
 
@@ -36,4 +36,4 @@ abbrev pub IsRestAdded : {R Q : Type 0} → (R → Q → Type 0) → Tree R → 
 IsRestAdded {R} {Q} refuses old list first rest new =
     (at : Path) (question : Q)
     → TableRefuses refuses new at question
-    ↔ (TableRefuses refuses old at question ⊎ RestRefuses refuses list first rest at question)
+    ↔ (TableRefuses refuses old at question ⊎ RestOfMeetRefuses refuses list first rest at question)

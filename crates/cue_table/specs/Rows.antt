@@ -5,7 +5,7 @@ use Rattle.std.specs.declared.cmp.Ordering.{Ordering}
 use Rattle.std.specs.List.Sorted.{IsStrictlySortedBy}
 use Rattle.cue_lattice.specs.OneOf.{OneOf}
 use Rattle.cue_table.specs.Slots.{Slot, at, from, Place, place_cmp, rows_of}
-use Rattle.cue_table.specs.Tree.{Tree, Rest, no_rest, onward, row_of, below, rest_of, find}
+use Rattle.cue_table.specs.Tree.{Tree, Rest, no_rest, onward, row_of, below, rest_below, find}
 
 -- rows in the order of their places
 abbrev pub by_place : {R : Type 0} → Place × R → Place × R → Ordering
@@ -22,7 +22,7 @@ kept_rest n (onward m tree) = if nat_eq n m then Some tree else None
 
 abbrev pub kept_at_slot : {R : Type 0} → Tree R → Slot → Option (Tree R)
 kept_at_slot tree (at step) = find step (below tree)
-kept_at_slot tree (from n) = kept_rest n (rest_of tree)
+kept_at_slot tree (from n) = kept_rest n (rest_below tree)
 
 -- the row that is kept at a place
 abbrev pub kept_branch : {R : Type 0} → Tree R → Place → Option (Tree R)

@@ -27,8 +27,8 @@ abbrev pub place_cmp : Place → Place → Ordering
 place_cmp = slice_cmp slot_cmp
 
 -- a row one slot further from the root
-abbrev pub behind : {R : Type 0} → Slot → Place × R → Place × R
-behind slot row = (slot ∷ row.0, row.1)
+abbrev pub row_behind : {R : Type 0} → Slot → Place × R → Place × R
+row_behind slot row = (slot ∷ row.0, row.1)
 
 -- the rows with their places, in their order
 abbrev mutual
@@ -39,8 +39,8 @@ abbrev mutual
   pub rows_below : {R : Type 0} → Children R → List (Place × R)
   rows_below none = []
   rows_below (child step tree children) =
-      map (behind (at step)) (rows_of tree) ++ rows_below children
+      map (row_behind (at step)) (rows_of tree) ++ rows_below children
 
   pub rows_onward : {R : Type 0} → Rest R → List (Place × R)
   rows_onward no_rest = []
-  rows_onward (onward n tree) = map (behind (from n)) (rows_of tree)
+  rows_onward (onward n tree) = map (row_behind (from n)) (rows_of tree)

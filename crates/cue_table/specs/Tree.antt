@@ -29,20 +29,20 @@ abbrev pub below : {R : Type 0} → Tree R → Children R
 below (node row children rest) = children
 
 -- what its further elements are
-abbrev pub rest_of : {R : Type 0} → Tree R → Rest R
-rest_of (node row children rest) = rest
+abbrev pub rest_below : {R : Type 0} → Tree R → Rest R
+rest_below (node row children rest) = rest
 
 -- the table without rows
 abbrev pub empty : {R : Type 0} → Tree R
 empty = node None none no_rest
 
 -- the tree, where a row stands at its place or below
-abbrev pub taken : {R : Type 0} → Tree R → Option (Tree R)
-taken (node None none no_rest) = None
-taken (node None none (onward n tree)) = Some (node None none (onward n tree))
-taken (node None (child step tree children) rest) =
+abbrev pub if_not_empty : {R : Type 0} → Tree R → Option (Tree R)
+if_not_empty (node None none no_rest) = None
+if_not_empty (node None none (onward n tree)) = Some (node None none (onward n tree))
+if_not_empty (node None (child step tree children) rest) =
     Some (node None (child step tree children) rest)
-taken (node (Some row) children rest) = Some (node (Some row) children rest)
+if_not_empty (node (Some row) children rest) = Some (node (Some row) children rest)
 
 -- what is found where two steps compare so: the branch at hand, or what else is found
 abbrev pub if_equal : {R : Type 0} → Ordering → Tree R → Option (Tree R) → Option (Tree R)
@@ -76,9 +76,9 @@ abbrev pub row_at : {R : Type 0} → Tree R → Path → Option R
 row_at tree path = option_and_then row_of (branch_at tree path)
 
 -- the branch that further elements have
-abbrev pub rest_tree : {R : Type 0} → Rest R → Option (Tree R)
-rest_tree no_rest = None
-rest_tree (onward n tree) = Some tree
+abbrev pub rest_at : {R : Type 0} → Rest R → Option (Tree R)
+rest_at no_rest = None
+rest_at (onward n tree) = Some tree
 
 -- the first index at which no own element stands or may stand
 abbrev pub behind_last : {R : Type 0} → Children R → ℕ

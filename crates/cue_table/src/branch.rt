@@ -1,19 +1,19 @@
 ghost use Rattle.std.specs.Prelude.{◌≡◌, ◌≤◌, ◌^◌, IfOk};
 ghost use Rattle.std.specs.Option.{option_map};
-ghost use Rattle.cue_table.specs.Tree.{row_of, below, rest_of, rest_tree, fixed_of, step_into};
+ghost use Rattle.cue_table.specs.Tree.{row_of, below, rest_below, rest_at, fixed_of, step_into};
 ghost use Rattle.cue_table.specs.Tree.{behind_last, labels_of, items_of};
 ghost use Rattle.cue_table.specs.Depth.{tree_depth};
 ghost use Rattle.cue_lattice.specs.Limits.{step_limit};
-ghost use Rattle.cue_table.specs.Form.{AreBranches, IsKept, IsTable};
+ghost use Rattle.cue_table.specs.Form.{AreBranches, IsRowKept, IsTable};
 ghost use Rattle.cue_row.specs.Steps.{step_of};
-ghost use Rattle.cue_table.specs.Spans.{spread};
+ghost use Rattle.cue_table.specs.Spans.{branches_of_spans};
 ghost use Rattle.cue_table.specs.Inner.View.{branches};
 
 use crate::Table;
 use crate::child::Child;
 use crate::iter::{Children, Items, Labels, Spans};
 use crate::node::Node;
-use crate::rest::{fixed, rest};
+use crate::rest::{fixed_from, rest};
 use cue_lattice::{Memory, Narrow};
 use cue_row::Step;
 use std::alloc::Global;
@@ -96,7 +96,7 @@ impl<'a, R: Narrow> Branch<'a, R> {
     /// The branches below that stand at a step of their own. Those of neighbouring elements that
     /// are kept as one come together, so that a walk costs what the table holds.
     pub fn spans(&self) -> Spans<'a, R>
-        ensures list { spread result ≡ below self.now }
+        ensures list { branches_of_spans result ≡ below self.now }
         ensures form { IsTable R.refuses R.is_value self.now }
     {
         let node = self.node;
@@ -123,7 +123,7 @@ impl<'a, R: Narrow> Branch<'a, R> {
 
     /// What each element is from index [`Branch::fixed`] on, unless nothing is known of it.
     pub fn rest(&self) -> Option<Branch<'a, R>>
-        ensures rest { result ≡ rest_tree (rest_of self.now) }
+        ensures rest { result ≡ rest_at (rest_below self.now) }
         ensures form { IsTable R.refuses R.is_value self.now }
     {
         match rest(self.node) {
@@ -139,13 +139,13 @@ impl<'a, R: Narrow> Branch<'a, R> {
         ensures few { result ≤ 2 ^ 32 }
         ensures form { IsTable R.refuses R.is_value self.now }
     {
-        fixed(self.node)
+        fixed_from(self.node)
     }
 }
 
 /// The index behind the last element among the branches.
 pub(crate) fn behind_last<R: Narrow>(children: &[Child<R>]) -> u64
-    requires { AreBranches (IsKept R.refuses R.is_value) (branches children.now) }
+    requires { AreBranches (IsRowKept R.refuses R.is_value) (branches children.now) }
     ensures number { result ≡ behind_last (branches children.now) }
     ensures few { result ≤ 2 ^ 32 }
 {

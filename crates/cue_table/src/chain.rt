@@ -1,7 +1,7 @@
 //! One branch alone and one rest alone, as a tree, and a place further from the root.
 ghost use Rattle.std.specs.Prelude.{◌≡◌, map, IfOk, None};
 ghost use Rattle.cue_row.specs.Steps.{step_of};
-ghost use Rattle.cue_table.specs.Inner.Rests.{along};
+ghost use Rattle.cue_table.specs.Inner.Rests.{tree_along};
 ghost use Rattle.cue_table.specs.Inner.View.{branches};
 ghost use Rattle.cue_table.specs.Inner.RowList.{last_cmp};
 ghost use Rattle.cue_table.specs.Tree.{node, none, child, no_rest, onward};
@@ -39,7 +39,7 @@ pub(crate) fn rest_alone<R: Narrow>(
 ) -> Result<Node<R>, Memory>
     ensures { IfOk result (λ list. list ≡ node None none (onward from below)) }
 {
-    let rest = Box::new(alloc, Onward::alone(alloc, from, below))?;
+    let rest = Box::new(alloc, Onward::rest_only(alloc, from, below))?;
     Ok(Node {
         row: None,
         children: Vec::new(alloc),
@@ -48,18 +48,18 @@ pub(crate) fn rest_alone<R: Narrow>(
 }
 
 /// A place further from the root, at the end of a path.
-pub(crate) fn hung_along<R: Narrow>(
+pub(crate) fn build_along<R: Narrow>(
     alloc: Global,
     steps: &[Step],
     node: Node<R>,
 ) -> Result<Node<R>, Memory>
-    ensures { IfOk result (λ above. above ≡ along (map step_of steps.now) node) }
+    ensures { IfOk result (λ above. above ≡ tree_along (map step_of steps.now) node) }
 {
     match steps {
         [] => Ok(node),
         [first, rest @ ..] => {
             let step = first.copy(alloc)?;
-            let below = hung_along(alloc, rest, node)?;
+            let below = build_along(alloc, rest, node)?;
             one_branch(alloc, step, below)
         }
     }

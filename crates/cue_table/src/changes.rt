@@ -2,14 +2,14 @@
 //! so that the change itself only moves branches.
 ghost use Rattle.std.specs.Prelude.{◌≡◌, ◌≤◌, ◌<◌, ◌+◌, length, slice_index_or, IfOk};
 ghost use Rattle.cue_row.specs.Steps.{step_of};
-ghost use Rattle.cue_table.specs.Form.{AreBranches, IsKept, IsTable};
+ghost use Rattle.cue_table.specs.Form.{AreBranches, IsRowKept, IsTable};
 ghost use Rattle.cue_table.specs.Inner.Meet.{IsMerge};
-ghost use Rattle.cue_table.specs.Inner.Changes.{Fit, IsFound, behind, merged, over};
+ghost use Rattle.cue_table.specs.Inner.Changes.{ChangesFit, IsFound, branches_behind, carry_out_changes, replaced_count};
 ghost use Rattle.cue_table.specs.Inner.Place.{AreBefore};
 ghost use Rattle.cue_table.specs.Inner.View.{branches};
 
 use crate::child::Child;
-use crate::meet::child_met;
+use crate::meet::unify_child;
 use crate::near::place_from;
 use cue_lattice::{Memory, Narrow};
 use std::alloc::Global;
@@ -25,7 +25,7 @@ pub(crate) struct Change<R: Narrow> {
 
 /// What another branch does to a list.
 #[derive(Drop)]
-enum Found<R: Narrow> {
+enum FoundChange<R: Narrow> {
     /// Nothing. So many branches of the list stand at its step or before it.
     Same(usize),
     /// It makes this change.
@@ -39,11 +39,11 @@ pub(crate) fn changes<R: Narrow>(
     left: &[Child<R>],
     right: Vec<Child<R>>,
 ) -> Result<Vec<Change<R>>, Memory>
-    requires left { AreBranches (IsKept R.refuses R.is_value) (branches left.now) }
-    requires right { AreBranches (IsKept R.refuses R.is_value) (branches right.items) }
-    ensures fit { IfOk result (λ changes. Fit changes.items left.now) }
-    ensures union { IfOk result (λ changes. IsMerge R.refuses (IsKept R.refuses R.is_value)
-        (branches left.now) (branches right.items) (branches (merged changes.items left.now))) }
+    requires left { AreBranches (IsRowKept R.refuses R.is_value) (branches left.now) }
+    requires right { AreBranches (IsRowKept R.refuses R.is_value) (branches right.items) }
+    ensures fit { IfOk result (λ changes. ChangesFit changes.items left.now) }
+    ensures union { IfOk result (λ changes. IsMerge R.refuses (IsRowKept R.refuses R.is_value)
+        (branches left.now) (branches right.items) (branches (carry_out_changes changes.items left.now))) }
 {
     let mut changes = Vec::with_capacity(alloc, right.len())?;
     let mut rest = left;
@@ -51,10 +51,10 @@ pub(crate) fn changes<R: Narrow>(
     let mut past = 0;
     let mut others = right.into_iter();
     while let Some(other) = others.next() {
-        match changed_by(alloc, rest, past, other)? {
-            Found::Same(count) => past = count,
-            Found::New(change) => {
-                rest = behind(rest, &change);
+        match change_by(alloc, rest, past, other)? {
+            FoundChange::Same(count) => past = count,
+            FoundChange::New(change) => {
+                rest = skip_change(rest, &change);
                 past = 0;
                 changes.push(change)?;
             }
@@ -66,30 +66,30 @@ pub(crate) fn changes<R: Narrow>(
 /// What another branch does to a list, of which the first branches, as many as `past` says, stand
 /// before it.
 #[cycle(meet)]
-fn changed_by<R: Narrow>(
+fn change_by<R: Narrow>(
     alloc: Global,
     left: &[Child<R>],
     past: usize,
     other: Child<R>,
-) -> Result<Found<R>, Memory>
-    requires left { AreBranches (IsKept R.refuses R.is_value) (branches left.now) }
+) -> Result<FoundChange<R>, Memory>
+    requires left { AreBranches (IsRowKept R.refuses R.is_value) (branches left.now) }
     requires right { IsTable R.refuses R.is_value other.node }
     requires past { AreBefore past (step_of other.step) (branches left.now) }
     ensures { IfOk result
-        (IsFound R.refuses (IsKept R.refuses R.is_value) left.now other) }
+        (IsFound R.refuses (IsRowKept R.refuses R.is_value) left.now other) }
 {
     match place_from(left, past, other.step()) {
-        Err(kept) => Ok(Found::New(Change {
+        Err(kept) => Ok(FoundChange::New(Change {
             kept,
             replaces: false,
             child: other,
         })),
         Ok(kept) => {
             let other = other.into_node(alloc)?;
-            let Some(child) = child_met(alloc, branch_at(left, kept), other)? else {
-                return Ok(Found::Same(kept + 1));
+            let Some(child) = unify_child(alloc, branch_at(left, kept), other)? else {
+                return Ok(FoundChange::Same(kept + 1));
             };
-            Ok(Found::New(Change {
+            Ok(FoundChange::New(Change {
                 kept,
                 replaces: true,
                 child,
@@ -107,9 +107,9 @@ fn branch_at<R: Narrow>(children: &[Child<R>], at: usize) -> &Child<R>
 }
 
 /// The branches behind a change.
-fn behind<'a, R: Narrow>(children: &'a [Child<R>], change: &Change<R>) -> &'a [Child<R>]
-    requires { change.now.kept + over change.now.replaces ≤ length children.now }
-    ensures { result.now ≡ behind change.now children.now }
+fn skip_change<'a, R: Narrow>(children: &'a [Child<R>], change: &Change<R>) -> &'a [Child<R>]
+    requires { change.now.kept + replaced_count change.now.replaces ≤ length children.now }
+    ensures { result.now ≡ branches_behind change.now children.now }
 {
     let rest = &children[change.kept..];
     if change.replaces { &rest[1..] } else { rest }

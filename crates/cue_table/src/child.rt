@@ -15,13 +15,13 @@ use std::rc::Rc;
 #[derive(Drop)]
 #[cycle(node)]
 pub(crate) struct Child<R: Narrow> {
-    held: Rc<Held<R>>,
+    held: Rc<HeldNode<R>>,
 }
 
 /// What a branch holds.
 #[derive(Drop)]
 #[cycle(node)]
-pub(crate) struct Held<R: Narrow> {
+pub(crate) struct HeldNode<R: Narrow> {
     step: Step,
     pub(crate) node: Node<R>,
 }
@@ -51,7 +51,7 @@ impl<R: Narrow> Child<R> {
         ensures node { IfOk result (λ child. child.node ≡ node) }
     {
         Ok(Child {
-            held: Rc::new(alloc, Held { step, node })?,
+            held: Rc::new(alloc, HeldNode { step, node })?,
         })
     }
 
@@ -79,7 +79,7 @@ impl<R: Narrow> Child<R> {
     }
 
     /// What it holds, to write to, where it has one owner.
-    pub(crate) fn own(&mut self) -> Option<&mut Held<R>>
+    pub(crate) fn own(&mut self) -> Option<&mut HeldNode<R>>
         ensures* writes_back { sem 𝓛 (lends_held R.row R.Question.row R.Narrow self.entry result) }
         ensures value { IfSome result (λ held. (held.now.step ≡ self.old.step)
             × (held.now.node ≡ self.old.node)) }
@@ -94,7 +94,7 @@ impl<R: Narrow> Child<R> {
         let Child { held } = self;
         match Rc::try_unwrap(held) {
             Ok(held) => {
-                let Held { step: _, node } = held;
+                let HeldNode { step: _, node } = held;
                 Ok(node)
             }
             Err(shared) => shared.node.copy(alloc),

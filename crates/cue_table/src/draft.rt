@@ -1,14 +1,14 @@
 //! Rows in the order of their places, of which a table is made.
 ghost use Rattle.std.specs.Prelude.{◌≡◌, [], Some, None, IfOk, IfSome, IfNone, OnErr};
-ghost use Rattle.cue_table.specs.Form.{IsKept, IsTable};
-ghost use Rattle.cue_table.specs.Inner.Drafts.{GoesOn};
+ghost use Rattle.cue_table.specs.Form.{IsRowKept, IsTable};
+ghost use Rattle.cue_table.specs.Inner.Drafts.{IsExtendedBy};
 ghost use Rattle.cue_table.specs.Inner.Opened.{IsDraft};
 ghost use Rattle.cue_table.specs.RowList.{Appends};
 ghost use Rattle.cue_table.specs.Slots.{rows_of};
 ghost use Rattle.cue_table.specs.Tree.{Tree, empty};
 
 use crate::node::Node;
-use crate::open::{Open, close, lead_on, open_along, staying};
+use crate::open::{Open, close, count_staying, lead_on, open_along};
 use crate::{Place, Table};
 use cue_lattice::{Memory, Narrow};
 use std::alloc::Global;
@@ -36,15 +36,15 @@ impl<R: Narrow> Model for Draft<R> {
 
     ghost use Rattle.cue_table.specs.Slots.{rows_of};
     ghost use Rattle.cue_table.specs.Inner.Drafts.{unless_refused};
-    ghost use Rattle.cue_table.specs.Inner.Opened.{closed};
+    ghost use Rattle.cue_table.specs.Inner.Opened.{close_trees};
 
     ghost view = { λ draft. unless_refused draft.is_refused
-        (rows_of (closed draft.above.items draft.last)) };
+        (rows_of (close_trees draft.above.items draft.last)) };
 
-    ghost use Rattle.cue_table.specs.Form.{IsKept};
+    ghost use Rattle.cue_table.specs.Form.{IsRowKept};
     ghost use Rattle.cue_table.specs.Inner.Opened.{IsDraft};
 
-    ghost invariant = { λ draft. IsDraft (IsKept R.refuses R.is_value) draft.above.items
+    ghost invariant = { λ draft. IsDraft (IsRowKept R.refuses R.is_value) draft.above.items
         draft.last };
 }
 
@@ -133,8 +133,8 @@ fn go_on<R: Narrow>(
     place: &Place,
     row: R,
 ) -> Result<bool, Memory>
-    requires { IsDraft (IsKept R.refuses R.is_value) above.old.items last.old }
-    ensures { IfOk result (GoesOn (IsKept R.refuses R.is_value) above.old.items last.old place.now
+    requires { IsDraft (IsRowKept R.refuses R.is_value) above.old.items last.old }
+    ensures { IfOk result (IsExtendedBy (IsRowKept R.refuses R.is_value) above.old.items last.old place.now
         row above.new.items last.new) }
 {
     let refuses_nothing = row.is_free();
@@ -142,10 +142,10 @@ fn go_on<R: Narrow>(
         return Ok(false);
     }
     row.known();
-    let Some((count, way)) = staying(above, place.slots()) else {
+    let Some((count, way)) = count_staying(above, place.slots()) else {
         return Ok(false);
     };
-    if way.is_empty() && last.taken().is_some() {
+    if way.is_empty() && last.non_empty().is_some() {
         return Ok(false);
     }
     if !close(alloc, above, last, count + 1)? {

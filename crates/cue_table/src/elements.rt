@@ -4,18 +4,18 @@ ghost use Rattle.std.specs.Vec.Iter.{into_iter_items};
 ghost use Rattle.cue_lattice.specs.Limits.{step_limit};
 ghost use Rattle.cue_lattice.specs.Path.{index};
 ghost use Rattle.cue_table.specs.Depth.{tree_depth};
-ghost use Rattle.cue_table.specs.Form.{IsKept, IsTable};
-ghost use Rattle.cue_table.specs.Inner.Join.{join};
+ghost use Rattle.cue_table.specs.Form.{IsRowKept, IsTable};
+ghost use Rattle.cue_table.specs.Inner.Join.{join_children};
 ghost use Rattle.cue_table.specs.Inner.Rests.{AreElements, IsListOf, IsRunOf};
 ghost use Rattle.cue_table.specs.Inner.View.{branches, more_of, run_branches};
-ghost use Rattle.cue_table.specs.Many.{IsOfElements, element_of};
-ghost use Rattle.cue_table.specs.Spans.{alike};
-ghost use Rattle.cue_table.specs.Tree.{find, no_rest, node, none, onward, taken};
+ghost use Rattle.cue_table.specs.Many.{IsOfElements, element_given};
+ghost use Rattle.cue_table.specs.Spans.{alike_elements};
+ghost use Rattle.cue_table.specs.Tree.{find, no_rest, node, none, onward, if_not_empty};
 
 use crate::Table;
 use crate::child::Child;
-use crate::node::{Node, Onward, Run};
-use crate::rest::settled;
+use crate::node::{ElementRun, Node, Onward};
+use crate::rest::settle_rest;
 use cue_lattice::{Memory, Narrow};
 use cue_row::Step;
 use std::alloc::Global;
@@ -49,12 +49,12 @@ fn runs_before<R: Narrow>(
     alloc: Global,
     from: u64,
     mut stretches: IntoIter<(u64, Table<R>), Global>,
-) -> Result<Vec<Run<R>>, Memory>
+) -> Result<Vec<ElementRun<R>>, Memory>
     requires { from ≤ 2 ^ 32 }
-    ensures form { IfOk result (λ runs. AreElements (IsKept R.refuses R.is_value) from
+    ensures form { IfOk result (λ runs. AreElements (IsRowKept R.refuses R.is_value) from
         (run_branches runs.items)) }
     ensures same { IfOk result (λ runs. (i : ℕ) → i < from → find (index i) (run_branches runs.items)
-        ≡ taken (element_of i (into_iter_items stretches))) }
+        ≡ if_not_empty (element_given i (into_iter_items stretches))) }
 {
     let mut runs = Vec::new(alloc);
     let mut end = from;
@@ -72,17 +72,17 @@ fn runs_before<R: Narrow>(
 }
 
 /// The elements from one index to another as a run, where they have a row.
-fn run_of<R: Narrow>(first: u64, last: u64, table: Table<R>) -> Option<Run<R>>
+fn run_of<R: Narrow>(first: u64, last: u64, table: Table<R>) -> Option<ElementRun<R>>
     requires order { first ≤ last }
     requires few { last < 2 ^ 32 }
-    ensures some { IfSome result (IsRunOf (IsKept R.refuses R.is_value) first last table) }
-    ensures none { IfNone result (taken table ≡ None) }
+    ensures some { IfSome result (IsRunOf (IsRowKept R.refuses R.is_value) first last table) }
+    ensures none { IfNone result (if_not_empty table ≡ None) }
 {
     let node = table.into_root();
-    if node.taken().is_none() {
+    if node.non_empty().is_none() {
         return None;
     }
-    Some(Run {
+    Some(ElementRun {
         first: first as u32,
         more: (last - first) as u32,
         node,
@@ -92,24 +92,24 @@ fn run_of<R: Narrow>(first: u64, last: u64, table: Table<R>) -> Option<Run<R>>
 /// A list of these elements before an index, and of this from the index on, and nothing else.
 fn list_of<R: Narrow>(
     alloc: Global,
-    runs: Vec<Run<R>>,
+    runs: Vec<ElementRun<R>>,
     from: u64,
     further: Node<R>,
 ) -> Result<Node<R>, Memory>
-    requires elements { AreElements (IsKept R.refuses R.is_value) from (run_branches runs.items) }
+    requires elements { AreElements (IsRowKept R.refuses R.is_value) from (run_branches runs.items) }
     requires few { from ≤ 2 ^ 32 }
     requires further { IsTable R.refuses R.is_value further }
-    ensures { IfOk result (IsListOf (IsKept R.refuses R.is_value) from (run_branches runs.items)
-        (taken further)) }
+    ensures { IfOk result (IsListOf (IsRowKept R.refuses R.is_value) from (run_branches runs.items)
+        (if_not_empty further)) }
 {
-    if further.taken().is_none() {
-        return ending(alloc, &runs);
+    if further.non_empty().is_none() {
+        return list_of_runs(alloc, &runs);
     }
-    going_on(alloc, settled(runs, from, further))
+    list_with_rest(alloc, settle_rest(runs, from, further))
 }
 
 /// A list that goes on so, and nothing else.
-fn going_on<R: Narrow>(alloc: Global, made: Onward<R>) -> Result<Node<R>, Memory>
+fn list_with_rest<R: Narrow>(alloc: Global, made: Onward<R>) -> Result<Node<R>, Memory>
     ensures { IfOk result (λ list. list
         ≡ node None (run_branches made.runs.items) (onward made.from made.node)) }
 {
@@ -121,7 +121,7 @@ fn going_on<R: Narrow>(alloc: Global, made: Onward<R>) -> Result<Node<R>, Memory
 }
 
 /// A list that ends with these elements, and nothing else. Each is a branch of its own.
-fn ending<R: Narrow>(alloc: Global, runs: &[Run<R>]) -> Result<Node<R>, Memory>
+fn list_of_runs<R: Narrow>(alloc: Global, runs: &[ElementRun<R>]) -> Result<Node<R>, Memory>
     ensures { IfOk result (λ list. list ≡ node None (run_branches runs.now) no_rest) }
 {
     let mut children = Vec::new(alloc);
@@ -139,10 +139,10 @@ fn ending<R: Narrow>(alloc: Global, runs: &[Run<R>]) -> Result<Node<R>, Memory>
 fn push_elements<R: Narrow>(
     alloc: Global,
     children: &mut Vec<Child<R>>,
-    run: &Run<R>,
+    run: &ElementRun<R>,
 ) -> Result<(), Memory>
-    ensures { OnOk result (branches children.new.items ≡ join (branches children.old.items)
-        (alike run.now.first (more_of run.now.first run.now.more) run.now.node none)) }
+    ensures { OnOk result (branches children.new.items ≡ join_children (branches children.old.items)
+        (alike_elements run.now.first (more_of run.now.first run.now.more) run.now.node none)) }
 {
     let end = u64::from(run.last()) + 1;
     for number in u64::from(run.first)..end {

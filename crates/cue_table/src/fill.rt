@@ -3,7 +3,7 @@ ghost use Rattle.std.specs.Prelude.{◌≡◌, ◌+◌, ◌<◌, ◌≤◌, ◌+
 ghost use Rattle.std.specs.List.{insert as inserted};
 ghost use Rattle.std.specs.Vec.{vec_len, vec_capacity};
 ghost use Rattle.std.specs.Vec.Iter.{into_iter_items};
-ghost use Rattle.cue_table.specs.Inner.Changes.{Fit, added, merged, more, over};
+ghost use Rattle.cue_table.specs.Inner.Changes.{ChangesFit, total_added, carry_out_changes, added_count, replaced_count};
 
 use crate::changes::Change;
 use crate::child::Child;
@@ -21,11 +21,11 @@ pub(crate) fn carry_out<R: Narrow>(
     children: &mut Vec<Child<R>>,
     changes: Vec<Change<R>>,
 ) -> Result<(), Memory>
-    requires { Fit changes.items children.old.items }
-    ensures ok { OnOk result (children.new.items ≡ merged changes.items children.old.items) }
+    requires { ChangesFit changes.items children.old.items }
+    ensures ok { OnOk result (children.new.items ≡ carry_out_changes changes.items children.old.items) }
     ensures err { OnErr result (children.new.items ≡ children.old.items) }
 {
-    let added = added(&changes);
+    let added = count_added(&changes);
     if added <= FEW {
         children.reserve(added)?;
         put_in(children, changes);
@@ -38,8 +38,8 @@ pub(crate) fn carry_out<R: Narrow>(
 }
 
 /// How many changes are in place of no branch.
-fn added<R: Narrow>(changes: &[Change<R>]) -> usize
-    ensures { result ≡ added changes.now }
+fn count_added<R: Narrow>(changes: &[Change<R>]) -> usize
+    ensures { result ≡ total_added changes.now }
 {
     let mut added = 0;
     for change in changes {
@@ -52,9 +52,9 @@ fn added<R: Narrow>(changes: &[Change<R>]) -> usize
 
 /// Puts new branches among others, where these stand. There is room for those that are added.
 fn put_in<R: Narrow>(children: &mut Vec<Child<R>>, changes: Vec<Change<R>>)
-    requires fit { Fit changes.items children.old.items }
-    requires room { vec_len children.old + added changes.items ≤ vec_capacity children.old }
-    ensures { children.new.items ≡ merged changes.items children.old.items }
+    requires fit { ChangesFit changes.items children.old.items }
+    requires room { vec_len children.old + total_added changes.items ≤ vec_capacity children.old }
+    ensures { children.new.items ≡ carry_out_changes changes.items children.old.items }
 {
     let mut at = 0;
     let mut others = changes.into_iter();
@@ -67,12 +67,12 @@ fn put_in<R: Narrow>(children: &mut Vec<Child<R>>, changes: Vec<Change<R>>)
 
 /// Puts a branch in at a place of a list, or in place of the one there.
 fn put_at<R: Narrow>(children: &mut Vec<Child<R>>, at: usize, replaces: bool, child: Child<R>)
-    requires place { at + over replaces ≤ vec_len children.old }
-    requires room { vec_len children.old + more replaces ≤ vec_capacity children.old }
+    requires place { at + replaced_count replaces ≤ vec_len children.old }
+    requires room { vec_len children.old + added_count replaces ≤ vec_capacity children.old }
     ensures before { take at children.new.items ≡ take at children.old.items }
     ensures from { drop at children.new.items
-        ≡ child ∷ drop (over replaces) (drop at children.old.items) }
-    ensures len { vec_len children.new ≡ vec_len children.old + more replaces }
+        ≡ child ∷ drop (replaced_count replaces) (drop at children.old.items) }
+    ensures len { vec_len children.new ≡ vec_len children.old + added_count replaces }
     ensures capacity { vec_capacity children.new ≡ vec_capacity children.old }
 {
     if replaces {
@@ -117,10 +117,10 @@ fn merge<R: Narrow>(
     changes: Vec<Change<R>>,
     mut room: Vec<Child<R>>,
 ) -> Vec<Child<R>>
-    requires fit { Fit changes.items old.items }
+    requires fit { ChangesFit changes.items old.items }
     requires empty { vec_len room ≡ 0 }
     requires space { vec_len old + vec_len changes ≤ vec_capacity room }
-    ensures { result.items ≡ merged changes.items old.items }
+    ensures { result.items ≡ carry_out_changes changes.items old.items }
 {
     let mut rest = old.into_iter();
     let mut others = changes.into_iter();
@@ -152,7 +152,7 @@ fn keep<R: Narrow>(room: &mut Vec<Child<R>>, rest: &mut IntoIter<Child<R>, Globa
 
 /// Goes past the next branch, where that is replaced.
 fn pass<R: Narrow>(rest: &mut IntoIter<Child<R>, Global>, replaced: bool)
-    ensures { into_iter_items rest.new ≡ drop (over replaced) (into_iter_items rest.old) }
+    ensures { into_iter_items rest.new ≡ drop (replaced_count replaced) (into_iter_items rest.old) }
 {
     if replaced {
         rest.next();

@@ -2,14 +2,14 @@
 ghost use Rattle.std.specs.Prelude.{◌≡◌, None};
 ghost use Rattle.std.specs.Iterator.{YieldsFirstBy, item_count};
 ghost use Rattle.cue_table.specs.Tree.{children_of, labels_of, items_of};
-ghost use Rattle.cue_table.specs.Form.{AreBranches, IsKept};
+ghost use Rattle.cue_table.specs.Form.{AreBranches, IsRowKept};
 ghost use Rattle.cue_table.specs.StepsOfCode.{step_at, span_of};
-ghost use Rattle.cue_table.specs.Spans.{spread};
+ghost use Rattle.cue_table.specs.Spans.{branches_of_spans};
 ghost use Rattle.cue_table.specs.Inner.Cursors.{spans_left};
 ghost use Rattle.cue_table.specs.Inner.View.{branches};
 
 use crate::child::Child;
-use crate::cursor::Cursor;
+use crate::cursor::BranchCursor;
 use crate::{Branch, Span, StepRef};
 use cue_lattice::Narrow;
 use cue_row::Step;
@@ -19,7 +19,7 @@ use std::marker::Model;
 /// that are left.
 #[derive(Drop)]
 pub struct Children<'a, R: Narrow> {
-    left: Cursor<'a, R>,
+    left: BranchCursor<'a, R>,
 }
 
 impl<'a, R: Narrow> Model for Children<'a, R> {
@@ -30,20 +30,20 @@ impl<'a, R: Narrow> Model for Children<'a, R> {
 
     ghost coded = { children_code R.code };
 
-    ghost use Rattle.cue_table.specs.Spans.{spread};
+    ghost use Rattle.cue_table.specs.Spans.{branches_of_spans};
     ghost use Rattle.cue_table.specs.Inner.Cursors.{spans_left};
-    ghost use Rattle.cue_table.specs.Form.{AreBranches, IsKept};
+    ghost use Rattle.cue_table.specs.Form.{AreBranches, IsRowKept};
 
-    ghost view = { λ it. spread (spans_left it.left) };
+    ghost view = { λ it. branches_of_spans (spans_left it.left) };
 
     ghost invariant = { λ it.
-        AreBranches (IsKept R.refuses R.is_value) (spread (spans_left it.left)) };
+        AreBranches (IsRowKept R.refuses R.is_value) (branches_of_spans (spans_left it.left)) };
 }
 
 impl<'a, R: Narrow> Children<'a, R> {
-    pub(crate) fn new(left: Cursor<'a, R>) -> Children<'a, R>
-        requires { AreBranches (IsKept R.refuses R.is_value) (spread (spans_left left)) }
-        ensures { result ≡ spread (spans_left left.entry) }
+    pub(crate) fn new(left: BranchCursor<'a, R>) -> Children<'a, R>
+        requires { AreBranches (IsRowKept R.refuses R.is_value) (branches_of_spans (spans_left left)) }
+        ensures { result ≡ branches_of_spans (spans_left left.entry) }
     {
         Children { left }
     }
@@ -67,7 +67,7 @@ impl<'a, R: Narrow> Iterator for Children<'a, R> {
 /// order of the steps. Contracts see the list of those that are left.
 #[derive(Drop)]
 pub struct Spans<'a, R: Narrow> {
-    left: Cursor<'a, R>,
+    left: BranchCursor<'a, R>,
 }
 
 impl<'a, R: Narrow> Model for Spans<'a, R> {
@@ -80,19 +80,19 @@ impl<'a, R: Narrow> Model for Spans<'a, R> {
 
     ghost coded = { spans_code R.code };
 
-    ghost use Rattle.cue_table.specs.Spans.{spread};
+    ghost use Rattle.cue_table.specs.Spans.{branches_of_spans};
     ghost use Rattle.cue_table.specs.Inner.Cursors.{spans_left};
-    ghost use Rattle.cue_table.specs.Form.{AreBranches, IsKept};
+    ghost use Rattle.cue_table.specs.Form.{AreBranches, IsRowKept};
 
     ghost view = { λ it. spans_left it.left };
 
     ghost invariant = { λ it.
-        AreBranches (IsKept R.refuses R.is_value) (spread (spans_left it.left)) };
+        AreBranches (IsRowKept R.refuses R.is_value) (branches_of_spans (spans_left it.left)) };
 }
 
 impl<'a, R: Narrow> Spans<'a, R> {
-    pub(crate) fn new(left: Cursor<'a, R>) -> Spans<'a, R>
-        requires { AreBranches (IsKept R.refuses R.is_value) (spread (spans_left left)) }
+    pub(crate) fn new(left: BranchCursor<'a, R>) -> Spans<'a, R>
+        requires { AreBranches (IsRowKept R.refuses R.is_value) (branches_of_spans (spans_left left)) }
         ensures { result ≡ spans_left left.entry }
     {
         Spans { left }
@@ -130,16 +130,16 @@ impl<'a, R: Narrow> Model for Labels<'a, R> {
 
     ghost use Rattle.cue_table.specs.Tree.{labels_of};
     ghost use Rattle.cue_table.specs.Inner.View.{branches};
-    ghost use Rattle.cue_table.specs.Form.{AreBranches, IsKept};
+    ghost use Rattle.cue_table.specs.Form.{AreBranches, IsRowKept};
 
     ghost view = { λ it. labels_of (branches it.rest.now) };
 
-    ghost invariant = { λ it. AreBranches (IsKept R.refuses R.is_value) (branches it.rest.now) };
+    ghost invariant = { λ it. AreBranches (IsRowKept R.refuses R.is_value) (branches it.rest.now) };
 }
 
 impl<'a, R: Narrow> Labels<'a, R> {
     pub(crate) fn new(rest: &'a [Child<R>]) -> Labels<'a, R>
-        requires { AreBranches (IsKept R.refuses R.is_value) (branches rest.now) }
+        requires { AreBranches (IsRowKept R.refuses R.is_value) (branches rest.now) }
         ensures { result ≡ labels_of (branches rest.now) }
     {
         Labels { rest }
@@ -170,7 +170,7 @@ impl<'a, R: Narrow> Iterator for Labels<'a, R> {
 /// of those that are left.
 #[derive(Drop)]
 pub struct Items<'a, R: Narrow> {
-    left: Cursor<'a, R>,
+    left: BranchCursor<'a, R>,
 }
 
 impl<'a, R: Narrow> Model for Items<'a, R> {
@@ -183,22 +183,22 @@ impl<'a, R: Narrow> Model for Items<'a, R> {
     ghost coded = { items_code R.code };
 
     ghost use Rattle.cue_table.specs.Tree.{items_of};
-    ghost use Rattle.cue_table.specs.Spans.{spread};
+    ghost use Rattle.cue_table.specs.Spans.{branches_of_spans};
     ghost use Rattle.cue_table.specs.Inner.Cursors.{spans_left};
-    ghost use Rattle.cue_table.specs.Form.{AreBranches, IsKept, StartsAtIndex};
+    ghost use Rattle.cue_table.specs.Form.{AreBranches, IsRowKept, StartsAtIndex};
 
-    ghost view = { λ it. items_of (spread (spans_left it.left)) };
+    ghost view = { λ it. items_of (branches_of_spans (spans_left it.left)) };
 
     ghost invariant = { λ it.
-        AreBranches (IsKept R.refuses R.is_value) (spread (spans_left it.left))
-        × StartsAtIndex (spread (spans_left it.left)) };
+        AreBranches (IsRowKept R.refuses R.is_value) (branches_of_spans (spans_left it.left))
+        × StartsAtIndex (branches_of_spans (spans_left it.left)) };
 }
 
 impl<'a, R: Narrow> Items<'a, R> {
-    pub(crate) fn new(mut left: Cursor<'a, R>) -> Items<'a, R>
+    pub(crate) fn new(mut left: BranchCursor<'a, R>) -> Items<'a, R>
         requires begun { left.begun ≡ None }
-        requires form { AreBranches (IsKept R.refuses R.is_value) (spread (spans_left left)) }
-        ensures { result ≡ items_of (spread (spans_left left.entry)) }
+        requires form { AreBranches (IsRowKept R.refuses R.is_value) (branches_of_spans (spans_left left)) }
+        ensures { result ≡ items_of (branches_of_spans (spans_left left.entry)) }
     {
         let labels = left
             .own

@@ -2,19 +2,19 @@
 ghost use Rattle.std.specs.Prelude.{◌≡◌, ◌↔◌, ◌<◌, ◌≤◌, ◌^◌, ℕ, IfOk, IsTrue, None};
 ghost use Rattle.std.specs.Option.{option_map};
 ghost use Rattle.cue_lattice.specs.Path.{index};
-ghost use Rattle.cue_table.specs.Form.{IsKept, IsTable};
-ghost use Rattle.cue_table.specs.Inner.Form.{Rise};
+ghost use Rattle.cue_table.specs.Form.{IsRowKept, IsTable};
+ghost use Rattle.cue_table.specs.Inner.Form.{StepsRise};
 ghost use Rattle.cue_table.specs.Meet.{IsMet};
 ghost use Rattle.cue_table.specs.Inner.Rests.{AreElementsMet, AreFields, AreMetRests, IsBranch};
 ghost use Rattle.cue_table.specs.Inner.Alike.{AreAlike};
 ghost use Rattle.cue_table.specs.Inner.Sides.{AreFound, IsAt, found_by};
 ghost use Rattle.cue_table.specs.Inner.View.{branches};
-ghost use Rattle.cue_table.specs.Tree.{no_rest, rest_of, rest_tree, step_into};
+ghost use Rattle.cue_table.specs.Tree.{no_rest, rest_below, rest_at, step_into};
 
 use crate::child::Child;
-use crate::meet::{meet_below, node_met, node_or, row_met, row_or};
-use crate::node::{Node, Onward, Run, copy_children, copy_row};
-use crate::rest::{fixed, rest, settled};
+use crate::meet::{meet_below, meet_nodes, meet_rows, node_or, row_or};
+use crate::node::{ElementRun, Node, Onward, copy_children, copy_row};
+use crate::rest::{fixed_from, rest, settle_rest};
 use crate::runs::FoundElement;
 use cue_lattice::{Memory, Narrow};
 use cue_row::Step;
@@ -22,19 +22,19 @@ use std::alloc::Global;
 
 /// Two places met, of which one has a rest. It shares what stays below.
 #[cycle(meet)]
-pub(crate) fn list_met<R: Narrow>(
+pub(crate) fn meet_lists<R: Narrow>(
     alloc: Global,
     left: &Node<R>,
     right: &Node<R>,
 ) -> Result<Node<R>, Memory>
     requires left { IsTable R.refuses R.is_value left.now }
     requires right { IsTable R.refuses R.is_value right.now }
-    requires rest { ¬ ((rest_of left.now ≡ no_rest) × (rest_of right.now ≡ no_rest)) }
+    requires rest { ¬ ((rest_below left.now ≡ no_rest) × (rest_below right.now ≡ no_rest)) }
     ensures form { IfOk result (IsTable R.refuses R.is_value) }
     ensures refused { IfOk result (IsMet R.refuses left.now right.now) }
 {
-    let onward = elements_met(alloc, left, right)?;
-    let row = row_met(alloc, &left.row, copy_row(alloc, &right.row)?)?;
+    let onward = meet_elements(alloc, left, right)?;
+    let row = meet_rows(alloc, &left.row, copy_row(alloc, &right.row)?)?;
     let row = row_or(alloc, row, &left.row)?;
     let (own, _) = left.children.split_at(field_count(&left.children));
     let mut children = copy_children(alloc, own)?;
@@ -51,36 +51,36 @@ pub(crate) fn list_met<R: Narrow>(
 /// The elements of two places met, of which one has a rest: each stretch that is alike in both
 /// once, and the rests.
 #[cycle(meet)]
-fn elements_met<R: Narrow>(
+fn meet_elements<R: Narrow>(
     alloc: Global,
     left: &Node<R>,
     right: &Node<R>,
 ) -> Result<Onward<R>, Memory>
     requires left { IsTable R.refuses R.is_value left.now }
     requires right { IsTable R.refuses R.is_value right.now }
-    requires rest { ¬ ((rest_of left.now ≡ no_rest) × (rest_of right.now ≡ no_rest)) }
+    requires rest { ¬ ((rest_below left.now ≡ no_rest) × (rest_below right.now ≡ no_rest)) }
     ensures { IfOk result
-        (AreElementsMet R.refuses (IsKept R.refuses R.is_value) left.now right.now) }
+        (AreElementsMet R.refuses (IsRowKept R.refuses R.is_value) left.now right.now) }
 {
-    let fixed = u64::max(fixed(left), fixed(right));
-    let further = found_met(alloc, rest(left), rest(right))?;
-    let mut on_left = Side::new(left);
-    let mut on_right = Side::new(right);
+    let fixed = u64::max(fixed_from(left), fixed_from(right));
+    let further = meet_found(alloc, rest(left), rest(right))?;
+    let mut on_left = ListSide::new(left);
+    let mut on_right = ListSide::new(right);
     let mut runs = Vec::new(alloc);
     let mut at = 0;
     while at < fixed {
         let first = index_of(at);
-        let element = element_met(alloc, &on_left, &on_right, first, &further)?;
+        let element = meet_element(alloc, &on_left, &on_right, first, &further)?;
         let end = alike_end(&mut on_left, &mut on_right, first, fixed);
         let last = index_of(end - 1);
         if let Some(node) = element {
             let more = last - first;
-            runs.push(Run { first, more, node })?;
+            runs.push(ElementRun { first, more, node })?;
         }
         at = end;
     }
     match further {
-        Some(node) => Ok(settled(runs, fixed, node)),
+        Some(node) => Ok(settle_rest(runs, fixed, node)),
         // One of both has a rest.
         None => unreachable!(),
     }
@@ -88,19 +88,19 @@ fn elements_met<R: Narrow>(
 
 /// A place on the way along its elements, with the element that was found last.
 #[derive(Drop)]
-struct Side<'a, R: Narrow> {
+struct ListSide<'a, R: Narrow> {
     place: &'a Node<R>,
     found: FoundElement<'a, R>,
 }
 
-impl<'a, R: Narrow> Side<'a, R> {
+impl<'a, R: Narrow> ListSide<'a, R> {
     /// A place at its first element.
-    fn new(place: &'a Node<R>) -> Side<'a, R>
+    fn new(place: &'a Node<R>) -> ListSide<'a, R>
         requires { IsTable R.refuses R.is_value place.now }
         ensures { IsAt place.now 0 result }
     {
-        let found = place.found_at(0);
-        Side { place, found }
+        let found = place.look_at_index(0);
+        ListSide { place, found }
     }
 
     /// Goes on to an index, and tells whether its element is kept as one with that before. It is
@@ -115,7 +115,7 @@ impl<'a, R: Narrow> Side<'a, R> {
             return true;
         }
         let place = self.place;
-        self.found = place.found_at(number);
+        self.found = place.look_at_index(number);
         false
     }
 
@@ -126,14 +126,19 @@ impl<'a, R: Narrow> Side<'a, R> {
         requires at { IsAt self.now.place.now number self.now }
         ensures { IsTrue result
             → (step_into self.now.place.now (index number)
-            ≡ rest_tree (rest_of self.now.place.now)) }
+            ≡ rest_at (rest_below self.now.place.now)) }
     {
-        u64::from(number) >= fixed(self.place) || same_found(self.found.node, rest(self.place))
+        u64::from(number) >= fixed_from(self.place) || same_found(self.found.node, rest(self.place))
     }
 }
 
 /// An index behind this one up to which the elements of both places are alike. Both go on to it.
-fn alike_end<R: Narrow>(left: &mut Side<R>, right: &mut Side<R>, first: u32, fixed: u64) -> u64
+fn alike_end<R: Narrow>(
+    left: &mut ListSide<R>,
+    right: &mut ListSide<R>,
+    first: u32,
+    fixed: u64,
+) -> u64
     requires left_form { IsTable R.refuses R.is_value left.old.place.now }
     requires right_form { IsTable R.refuses R.is_value right.old.place.now }
     requires left { IsAt left.old.place.now first left.old }
@@ -154,7 +159,7 @@ fn alike_end<R: Narrow>(left: &mut Side<R>, right: &mut Side<R>, first: u32, fix
 }
 
 /// Up to which index the elements that were found are kept as one in both places.
-fn end_of_both<R: Narrow>(left: &Side<R>, right: &Side<R>, fixed: u64) -> u64
+fn end_of_both<R: Narrow>(left: &ListSide<R>, right: &ListSide<R>, fixed: u64) -> u64
     ensures left { result ≤ left.now.found.end }
     ensures right { result ≤ right.now.found.end }
     ensures low { result ≤ fixed }
@@ -166,7 +171,12 @@ fn end_of_both<R: Narrow>(left: &Side<R>, right: &Side<R>, fixed: u64) -> u64
 
 /// Whether the next elements of both places are as those before. Both go on to these, where they
 /// stand before an index. Elements are compared where they are not kept as one.
-fn both_go_on<R: Narrow>(left: &mut Side<R>, right: &mut Side<R>, next: u64, fixed: u64) -> bool
+fn both_go_on<R: Narrow>(
+    left: &mut ListSide<R>,
+    right: &mut ListSide<R>,
+    next: u64,
+    fixed: u64,
+) -> bool
     requires left_form { IsTable R.refuses R.is_value left.old.place.now }
     requires right_form { IsTable R.refuses R.is_value right.old.place.now }
     requires left { AreFound left.old.place.now next left.old }
@@ -193,10 +203,10 @@ fn both_go_on<R: Narrow>(left: &mut Side<R>, right: &mut Side<R>, next: u64, fix
 /// The elements of two places with an index met. Where both are as the rests, they are shared with
 /// what these are together.
 #[cycle(meet)]
-fn element_met<R: Narrow>(
+fn meet_element<R: Narrow>(
     alloc: Global,
-    left: &Side<R>,
-    right: &Side<R>,
+    left: &ListSide<R>,
+    right: &ListSide<R>,
     first: u32,
     further: &Option<Node<R>>,
 ) -> Result<Option<Node<R>>, Memory>
@@ -204,10 +214,10 @@ fn element_met<R: Narrow>(
     requires right_form { IsTable R.refuses R.is_value right.now.place.now }
     requires left { IsAt left.now.place.now first left.now }
     requires right { IsAt right.now.place.now first right.now }
-    requires form { IsBranch (IsKept R.refuses R.is_value) further.now }
-    requires refused { AreMetRests R.refuses (rest_tree (rest_of left.now.place.now))
-        (rest_tree (rest_of right.now.place.now)) further.now }
-    ensures form { IfOk result (IsBranch (IsKept R.refuses R.is_value)) }
+    requires form { IsBranch (IsRowKept R.refuses R.is_value) further.now }
+    requires refused { AreMetRests R.refuses (rest_at (rest_below left.now.place.now))
+        (rest_at (rest_below right.now.place.now)) further.now }
+    ensures form { IfOk result (IsBranch (IsRowKept R.refuses R.is_value)) }
     ensures refused { IfOk result (AreMetRests R.refuses
         (step_into left.now.place.now (index first))
         (step_into right.now.place.now (index first))) }
@@ -215,7 +225,7 @@ fn element_met<R: Narrow>(
     if left.is_as_rest(first) && right.is_as_rest(first) {
         return copy_found(alloc, further);
     }
-    found_met(alloc, left.found.node, right.found.node)
+    meet_found(alloc, left.found.node, right.found.node)
 }
 
 /// Whether two branches that may be there are the same.
@@ -251,14 +261,14 @@ fn index_of(number: u64) -> u32
 
 /// What two branches are together that may be there: one, where one of both is there.
 #[cycle(meet)]
-fn found_met<R: Narrow>(
+fn meet_found<R: Narrow>(
     alloc: Global,
     left: Option<&Node<R>>,
     right: Option<&Node<R>>,
 ) -> Result<Option<Node<R>>, Memory>
-    requires left { IsBranch (IsKept R.refuses R.is_value) (option_map (λ node. node.now) left) }
-    requires right { IsBranch (IsKept R.refuses R.is_value) (option_map (λ node. node.now) right) }
-    ensures form { IfOk result (IsBranch (IsKept R.refuses R.is_value)) }
+    requires left { IsBranch (IsRowKept R.refuses R.is_value) (option_map (λ node. node.now) left) }
+    requires right { IsBranch (IsRowKept R.refuses R.is_value) (option_map (λ node. node.now) right) }
+    ensures form { IfOk result (IsBranch (IsRowKept R.refuses R.is_value)) }
     ensures refused { IfOk result (AreMetRests R.refuses
         (option_map (λ node. node.now) left.entry) (option_map (λ node. node.now) right.entry)) }
     ensures there { IfOk result (λ met. met ≡ None
@@ -268,28 +278,28 @@ fn found_met<R: Narrow>(
     match (left, right) {
         (None, None) => Ok(None),
         (Some(node), None) | (None, Some(node)) => Ok(Some(node.copy(alloc)?)),
-        (Some(node), Some(other)) => Ok(Some(whole_met(alloc, node, other)?)),
+        (Some(node), Some(other)) => Ok(Some(meet_whole(alloc, node, other)?)),
     }
 }
 
 /// Two places met, shared with the left one where it stays as it is.
 #[cycle(meet)]
-fn whole_met<R: Narrow>(alloc: Global, left: &Node<R>, right: &Node<R>) -> Result<Node<R>, Memory>
+fn meet_whole<R: Narrow>(alloc: Global, left: &Node<R>, right: &Node<R>) -> Result<Node<R>, Memory>
     requires left { IsTable R.refuses R.is_value left.now }
     requires right { IsTable R.refuses R.is_value right.now }
     ensures form { IfOk result (IsTable R.refuses R.is_value) }
     ensures refused { IfOk result (IsMet R.refuses left.now right.now) }
 {
     if left.rest.is_some() || right.rest.is_some() {
-        return list_met(alloc, left, right);
+        return meet_lists(alloc, left, right);
     }
-    let met = node_met(alloc, left, right.copy(alloc)?)?;
+    let met = meet_nodes(alloc, left, right.copy(alloc)?)?;
     Ok(node_or(alloc, met, left)?)
 }
 
 /// How many of the branches are fields; these stand before the elements.
 fn field_count<R: Narrow>(children: &[Child<R>]) -> usize
-    requires { Rise (branches children.now) }
+    requires { StepsRise (branches children.now) }
     ensures { AreFields children.now result }
 {
     children.partition_point(|child| matches!(child.step(), Step::Label(_)))

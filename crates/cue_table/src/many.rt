@@ -5,10 +5,10 @@ ghost use Rattle.std.specs.Vec.Iter.{into_iter_items};
 ghost use Rattle.cue_lattice.specs.Limits.{step_limit};
 ghost use Rattle.cue_table.specs.Depth.{tree_depth};
 ghost use Rattle.cue_table.specs.Form.{IsTable};
-ghost use Rattle.cue_table.specs.Inner.Form.{Rise};
-ghost use Rattle.cue_table.specs.Inner.Given.{given_of, has_rows, hung, IsBranch};
+ghost use Rattle.cue_table.specs.Inner.Form.{StepsRise};
+ghost use Rattle.cue_table.specs.Inner.Given.{given_of, has_rows, tree_of_branch, IsBranch};
 ghost use Rattle.cue_table.specs.Inner.View.{branches};
-ghost use Rattle.cue_table.specs.Many.{IsOfBranches, IsUnified};
+ghost use Rattle.cue_table.specs.Many.{IsOfBranches, AreUnified};
 ghost use Rattle.cue_table.specs.Tree.{node, no_rest};
 
 use crate::Table;
@@ -24,13 +24,13 @@ impl<R: Narrow> Table<R> {
     /// What the tables of a list know together: refuses exactly what one of them does. Of an empty
     /// list it is the table without rows. The tables are taken over and not copied, and unified by
     /// halves.
-    pub fn unified(alloc: Global, tables: Vec<Table<R>>) -> Result<Table<R>, Memory>
+    pub fn unify_all(alloc: Global, tables: Vec<Table<R>>) -> Result<Table<R>, Memory>
         ensures form { IfOk result (IsTable R.refuses R.is_value) }
-        ensures refused { IfOk result (IsUnified R.refuses tables.items) }
+        ensures refused { IfOk result (AreUnified R.refuses tables.items) }
     {
         let count = tables.len();
         let mut rest = tables.into_iter();
-        next_unified(alloc, &mut rest, count)
+        unify_next(alloc, &mut rest, count)
     }
 
     /// The table of branches that are given in any order, each less than 64 steps deep, as
@@ -44,7 +44,7 @@ impl<R: Narrow> Table<R> {
         ensures refused { IfOk result (IsOfBranches R.refuses branches.items) }
     {
         let children = children_of(alloc, branches)?;
-        if rise(&children) {
+        if is_rising(&children) {
             return Ok(of_rising(alloc, children));
         }
         of_any(alloc, children)
@@ -72,8 +72,8 @@ fn children_of<R: Narrow>(
 }
 
 /// Whether each branch stands at a step behind that of the one before it.
-fn rise<R: Narrow>(children: &[Child<R>]) -> bool
-    ensures { IsTrue result ↔ Rise (branches children.now) }
+fn is_rising<R: Narrow>(children: &[Child<R>]) -> bool
+    ensures { IsTrue result ↔ StepsRise (branches children.now) }
 {
     children.is_sorted_by(|one, other| one.step().compare(other.step()).is_lt())
 }
@@ -81,7 +81,7 @@ fn rise<R: Narrow>(children: &[Child<R>]) -> bool
 /// The table that has these branches below its root.
 fn of_rising<R: Narrow>(alloc: Global, children: Vec<Child<R>>) -> Table<R>
     requires branches { All (IsBranch R.refuses R.is_value) children.items }
-    requires rise { Rise (branches children.items) }
+    requires rise { StepsRise (branches children.items) }
     ensures same { result ≡ node None (branches children.items) no_rest }
     ensures form { IsTable R.refuses R.is_value result }
 {
@@ -100,7 +100,7 @@ fn of_any<R: Narrow>(alloc: Global, mut children: Vec<Child<R>>) -> Result<Table
     ensures refused { IfOk result (IsOfBranches R.refuses (map given_of children.items)) }
 {
     children.sort_by(|one, other| one.step().compare(other.step()))?;
-    if rise(&children) {
+    if is_rising(&children) {
         return Ok(of_rising(alloc, children));
     }
     met_together(alloc, children)
@@ -119,18 +119,18 @@ fn met_together<R: Narrow>(alloc: Global, children: Vec<Child<R>>) -> Result<Tab
         if last_against(&front, child.step()).is_lt() {
             front.push(child)?;
         } else {
-            others.push(alone(alloc, child)?)?;
+            others.push(of_branch(alloc, child)?)?;
         }
     }
     let mut table = of_rising(alloc, front);
-    table.meet_with(Table::unified(alloc, others)?)?;
+    table.meet_with(Table::unify_all(alloc, others)?)?;
     Ok(table)
 }
 
 /// The table of one branch.
-fn alone<R: Narrow>(alloc: Global, child: Child<R>) -> Result<Table<R>, Memory>
+fn of_branch<R: Narrow>(alloc: Global, child: Child<R>) -> Result<Table<R>, Memory>
     requires { IsBranch R.refuses R.is_value child }
-    ensures { IfOk result (λ table. table ≡ hung child) }
+    ensures { IfOk result (λ table. table ≡ tree_of_branch child) }
 {
     let mut children = Vec::with_capacity(alloc, 1)?;
     children.push(child)?;
@@ -138,13 +138,13 @@ fn alone<R: Narrow>(alloc: Global, child: Child<R>) -> Result<Table<R>, Memory>
 }
 
 /// What the next tables of a list know together.
-fn next_unified<R: Narrow>(
+fn unify_next<R: Narrow>(
     alloc: Global,
     rest: &mut IntoIter<Table<R>, Global>,
     count: usize,
 ) -> Result<Table<R>, Memory>
     ensures form { IfOk result (IsTable R.refuses R.is_value) }
-    ensures refused { IfOk result (IsUnified R.refuses (take count (into_iter_items rest.old))) }
+    ensures refused { IfOk result (AreUnified R.refuses (take count (into_iter_items rest.old))) }
     ensures rest { OnOk result (into_iter_items rest.new ≡ drop count (into_iter_items rest.old)) }
 {
     if count == 0 {
@@ -157,7 +157,7 @@ fn next_unified<R: Narrow>(
         };
     }
     let half = count / 2;
-    let mut met = next_unified(alloc, rest, half)?;
-    met.meet_with(next_unified(alloc, rest, count - half)?)?;
+    let mut met = unify_next(alloc, rest, half)?;
+    met.meet_with(unify_next(alloc, rest, count - half)?)?;
     Ok(met)
 }

@@ -3,8 +3,8 @@
 ghost use Rattle.std.specs.Prelude.{◌≡◌, IfOk, OnErr, OnOk};
 ghost use Rattle.std.specs.Option.{option_map};
 ghost use Rattle.cue_row.specs.Steps.{step_of};
-ghost use Rattle.cue_table.specs.Tree.{child, none, no_rest, rest_of};
-ghost use Rattle.cue_table.specs.Form.{AreBranches, IsKept, IsRow, IsTable};
+ghost use Rattle.cue_table.specs.Tree.{child, none, no_rest, rest_below};
+ghost use Rattle.cue_table.specs.Form.{AreBranches, IsRowKept, IsTableRow, IsTable};
 ghost use Rattle.cue_table.specs.Meet.{IsMet, IsUnion};
 ghost use Rattle.cue_table.specs.Inner.Meet.{IsMerge};
 ghost use Rattle.cue_table.specs.Refuses.{RowRefuses};
@@ -15,7 +15,7 @@ ghost use Rattle.cue_table.specs.Inner.View.{branches};
 use crate::changes::changes;
 use crate::child::Child;
 use crate::fill::{carry_out, insert};
-use crate::lists::list_met;
+use crate::lists::meet_lists;
 use crate::node::{Node, copy_children, copy_row, place};
 use cue_lattice::{Memory, Narrow, Narrowed};
 use std::alloc::Global;
@@ -36,7 +36,7 @@ pub(crate) fn meet_into<R: Narrow>(
     if left.rest.is_none() && right.rest.is_none() {
         return meet_own(alloc, left, right);
     }
-    *left = list_met(alloc, left, &right)?;
+    *left = meet_lists(alloc, left, &right)?;
     Ok(())
 }
 
@@ -45,8 +45,8 @@ pub(crate) fn meet_into<R: Narrow>(
 fn meet_own<R: Narrow>(alloc: Global, left: &mut Node<R>, right: Node<R>) -> Result<(), Memory>
     requires left { IsTable R.refuses R.is_value left.old }
     requires right { IsTable R.refuses R.is_value right }
-    requires left_rest { rest_of left.old ≡ no_rest }
-    requires right_rest { rest_of right ≡ no_rest }
+    requires left_rest { rest_below left.old ≡ no_rest }
+    requires right_rest { rest_below right ≡ no_rest }
     ensures form { IsTable R.refuses R.is_value left.new }
     ensures ok { OnOk result (IsMet R.refuses left.old right left.new) }
     ensures err { OnErr result (left.new ≡ left.old) }
@@ -59,7 +59,7 @@ fn meet_own<R: Narrow>(alloc: Global, left: &mut Node<R>, right: Node<R>) -> Res
     if children.is_empty() {
         return narrow_row(alloc, &mut left.row, row);
     }
-    let met = row_met(alloc, &left.row, row)?;
+    let met = meet_rows(alloc, &left.row, row)?;
     meet_below(alloc, &mut left.children, children)?;
     if let Some(row) = met {
         left.row = Some(row);
@@ -74,9 +74,9 @@ pub(crate) fn meet_below<R: Narrow>(
     left: &mut Vec<Child<R>>,
     mut right: Vec<Child<R>>,
 ) -> Result<(), Memory>
-    requires left { AreBranches (IsKept R.refuses R.is_value) (branches left.old.items) }
-    requires right { AreBranches (IsKept R.refuses R.is_value) (branches right.items) }
-    ensures ok { OnOk result (IsMerge R.refuses (IsKept R.refuses R.is_value)
+    requires left { AreBranches (IsRowKept R.refuses R.is_value) (branches left.old.items) }
+    requires right { AreBranches (IsRowKept R.refuses R.is_value) (branches right.items) }
+    ensures ok { OnOk result (IsMerge R.refuses (IsRowKept R.refuses R.is_value)
         (branches left.old.items) (branches right.items) (branches left.new.items)) }
     ensures err { OnErr result (left.new.items ≡ left.old.items) }
 {
@@ -100,10 +100,10 @@ fn meet_one<R: Narrow>(
     left: &mut Vec<Child<R>>,
     other: Child<R>,
 ) -> Result<(), Memory>
-    requires left { AreBranches (IsKept R.refuses R.is_value) (branches left.old.items) }
-    requires right { AreBranches (IsKept R.refuses R.is_value)
+    requires left { AreBranches (IsRowKept R.refuses R.is_value) (branches left.old.items) }
+    requires right { AreBranches (IsRowKept R.refuses R.is_value)
         (child (step_of other.step) other.node none) }
-    ensures ok { OnOk result (IsMerge R.refuses (IsKept R.refuses R.is_value)
+    ensures ok { OnOk result (IsMerge R.refuses (IsRowKept R.refuses R.is_value)
         (branches left.old.items) (child (step_of other.step) other.node none)
         (branches left.new.items)) }
     ensures err { OnErr result (left.new.items ≡ left.old.items) }
@@ -130,7 +130,7 @@ fn meet_child<R: Narrow>(alloc: Global, left: &mut Child<R>, right: Node<R>) -> 
     if let Some(held) = left.own() {
         return meet_into(alloc, &mut held.node, right);
     }
-    if let Some(met) = child_met(alloc, left, right)? {
+    if let Some(met) = unify_child(alloc, left, right)? {
         *left = met;
     }
     Ok(())
@@ -138,7 +138,7 @@ fn meet_child<R: Narrow>(alloc: Global, left: &mut Child<R>, right: Node<R>) -> 
 
 /// A branch unified with a place, unless it stays as it is.
 #[cycle(meet)]
-pub(crate) fn child_met<R: Narrow>(
+pub(crate) fn unify_child<R: Narrow>(
     alloc: Global,
     left: &Child<R>,
     right: Node<R>,
@@ -150,7 +150,7 @@ pub(crate) fn child_met<R: Narrow>(
     ensures refused { IfOk result (λ met.
         IsMet R.refuses left.now.node right (or_old met left.now).node) }
 {
-    let Some(node) = node_met(alloc, left.node(), right)? else {
+    let Some(node) = meet_nodes(alloc, left.node(), right)? else {
         return Ok(None);
     };
     Ok(Some(Child::new(alloc, left.step().copy(alloc)?, node)?))
@@ -158,7 +158,7 @@ pub(crate) fn child_met<R: Narrow>(
 
 /// A place unified with another one, unless it stays as it is. It shares what stays below.
 #[cycle(meet)]
-pub(crate) fn node_met<R: Narrow>(
+pub(crate) fn meet_nodes<R: Narrow>(
     alloc: Global,
     left: &Node<R>,
     right: Node<R>,
@@ -169,10 +169,10 @@ pub(crate) fn node_met<R: Narrow>(
     ensures refused { IfOk result (λ met. IsMet R.refuses left.now right (or_old met left.now)) }
 {
     if left.rest.is_some() || right.rest.is_some() {
-        return Ok(Some(list_met(alloc, left, &right)?));
+        return Ok(Some(meet_lists(alloc, left, &right)?));
     }
-    let row = row_met(alloc, &left.row, right.row)?;
-    let children = below_met(alloc, &left.children, right.children)?;
+    let row = meet_rows(alloc, &left.row, right.row)?;
+    let children = meet_branches(alloc, &left.children, right.children)?;
     if row.is_none() && children.is_none() {
         return Ok(None);
     }
@@ -185,14 +185,14 @@ pub(crate) fn node_met<R: Narrow>(
 
 /// Branches unified with others, unless they stay as they are.
 #[cycle(meet)]
-fn below_met<R: Narrow>(
+fn meet_branches<R: Narrow>(
     alloc: Global,
     left: &[Child<R>],
     right: Vec<Child<R>>,
 ) -> Result<Option<Vec<Child<R>>>, Memory>
-    requires left { AreBranches (IsKept R.refuses R.is_value) (branches left.now) }
-    requires right { AreBranches (IsKept R.refuses R.is_value) (branches right.items) }
-    ensures { IfOk result (λ met. IsMerge R.refuses (IsKept R.refuses R.is_value)
+    requires left { AreBranches (IsRowKept R.refuses R.is_value) (branches left.now) }
+    requires right { AreBranches (IsRowKept R.refuses R.is_value) (branches right.items) }
+    ensures { IfOk result (λ met. IsMerge R.refuses (IsRowKept R.refuses R.is_value)
         (branches left.now) (branches right.items)
         (branches (or_old (option_map (λ list. list.items) met) left.now))) }
 {
@@ -214,9 +214,9 @@ pub(crate) fn narrow_row<R: Narrow>(
     left: &mut Option<R>,
     right: Option<R>,
 ) -> Result<(), Memory>
-    requires left { IsRow (IsKept R.refuses R.is_value) left.old }
-    requires right { IsRow (IsKept R.refuses R.is_value) right }
-    ensures form { IsRow (IsKept R.refuses R.is_value) left.new }
+    requires left { IsTableRow (IsRowKept R.refuses R.is_value) left.old }
+    requires right { IsTableRow (IsRowKept R.refuses R.is_value) right }
+    ensures form { IsTableRow (IsRowKept R.refuses R.is_value) left.new }
     ensures ok { OnOk result
         (IsUnion (RowRefuses R.refuses left.old) (RowRefuses R.refuses right)
         (RowRefuses R.refuses left.new)) }
@@ -235,14 +235,14 @@ pub(crate) fn narrow_row<R: Narrow>(
 }
 
 /// The row that will stand at a place, unless it stays as it is.
-pub(crate) fn row_met<R: Narrow>(
+pub(crate) fn meet_rows<R: Narrow>(
     alloc: Global,
     left: &Option<R>,
     right: Option<R>,
 ) -> Result<Option<R>, Memory>
-    requires left { IsRow (IsKept R.refuses R.is_value) left.now }
-    requires right { IsRow (IsKept R.refuses R.is_value) right }
-    ensures form { IfOk result (λ row. IsRow (IsKept R.refuses R.is_value) (or_row row left.now)) }
+    requires left { IsTableRow (IsRowKept R.refuses R.is_value) left.now }
+    requires right { IsTableRow (IsRowKept R.refuses R.is_value) right }
+    ensures form { IfOk result (λ row. IsTableRow (IsRowKept R.refuses R.is_value) (or_row row left.now)) }
     ensures refused { IfOk result (λ row.
         IsUnion (RowRefuses R.refuses left.now) (RowRefuses R.refuses right)
         (RowRefuses R.refuses (or_row row left.now))) }

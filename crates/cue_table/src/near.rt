@@ -1,8 +1,8 @@
 //! Where a branch is among others, searched for from the front on, or from behind the first ones.
 ghost use Rattle.std.specs.Prelude.{MatchResult};
 ghost use Rattle.cue_row.specs.Steps.{step_of};
-ghost use Rattle.cue_table.specs.Inner.Form.{Rise};
-ghost use Rattle.cue_table.specs.Inner.Near.{Reaches};
+ghost use Rattle.cue_table.specs.Inner.Form.{StepsRise};
+ghost use Rattle.cue_table.specs.Inner.Near.{ReachesNear};
 ghost use Rattle.cue_table.specs.Inner.Place.{AreBefore, IsGap, IsPlace};
 ghost use Rattle.cue_table.specs.Inner.View.{branches};
 
@@ -19,7 +19,7 @@ pub(crate) fn place_from<R: Narrow>(
     past: usize,
     step: &Step,
 ) -> Result<usize, usize>
-    requires rise { Rise (branches children.now) }
+    requires rise { StepsRise (branches children.now) }
     requires past { AreBefore past (step_of step.now) (branches children.now) }
     ensures { MatchResult result (IsPlace children.now (step_of step.now))
         (IsGap children.now (step_of step.now)) }
@@ -33,7 +33,7 @@ pub(crate) fn place_from<R: Narrow>(
 
 /// As `place`, with few comparisons where the branch is near the front.
 fn place_near<R: Narrow>(children: &[Child<R>], step: &Step) -> Result<usize, usize>
-    requires { Rise (branches children.now) }
+    requires { StepsRise (branches children.now) }
     ensures { MatchResult result (IsPlace children.now (step_of step.now))
         (IsGap children.now (step_of step.now)) }
 {
@@ -44,7 +44,7 @@ fn place_near<R: Narrow>(children: &[Child<R>], step: &Step) -> Result<usize, us
 /// A place of the list behind which no branch stands at a step: one that is reached by going on
 /// from the front as far again as was gone before.
 fn near_end<R: Narrow>(children: &[Child<R>], step: &Step) -> usize
-    ensures { Reaches children.now (step_of step.now) result }
+    ensures { ReachesNear children.now (step_of step.now) result }
 {
     let mut end = 1;
     while end < children.len() {

@@ -1,18 +1,18 @@
 ghost use Rattle.std.specs.Prelude.{◌≡◌, [], None, Some, map, IfOk, IfSome, MatchResult};
 ghost use Rattle.std.specs.Option.{option_map};
-ghost use Rattle.cue_table.specs.Tree.{empty, node, none, no_rest, below, row_of, taken, find};
+ghost use Rattle.cue_table.specs.Tree.{empty, node, none, no_rest, below, row_of, if_not_empty, find};
 ghost use Rattle.cue_table.specs.Tree.{step_into, branch_at};
 ghost use Rattle.cue_table.specs.Form.{IsTable};
-ghost use Rattle.cue_table.specs.Inner.Form.{Rise};
+ghost use Rattle.cue_table.specs.Inner.Form.{StepsRise};
 ghost use Rattle.cue_lattice.specs.Path.{index};
 ghost use Rattle.cue_row.specs.Steps.{step_of};
-ghost use Rattle.cue_table.specs.Spans.{spread};
+ghost use Rattle.cue_table.specs.Spans.{branches_of_spans};
 ghost use Rattle.cue_table.specs.Inner.Cursors.{spans_left};
 ghost use Rattle.cue_table.specs.Inner.View.{branches, last_of, rest_in, run_branches, runs_in};
 ghost use Rattle.cue_table.specs.Inner.Place.{IsGap, IsPlace};
 
 use crate::child::Child;
-use crate::cursor::Cursor;
+use crate::cursor::BranchCursor;
 use crate::runs::{find_element, find_run};
 use cue_lattice::{Memory, Narrow};
 use cue_row::Step;
@@ -39,7 +39,7 @@ pub struct Node<R: Narrow> {
 #[cycle(node)]
 pub(crate) struct Onward<R: Narrow> {
     /// Elements behind those among the branches, in their order.
-    pub(crate) runs: Vec<Run<R>>,
+    pub(crate) runs: Vec<ElementRun<R>>,
     /// The first index from which on all elements are alike, at most [`INDEXES`].
     pub(crate) from: u64,
     pub(crate) node: Node<R>,
@@ -49,7 +49,7 @@ pub(crate) struct Onward<R: Narrow> {
 /// it, as far as there are indexes.
 #[derive(Drop)]
 #[cycle(node)]
-pub(crate) struct Run<R: Narrow> {
+pub(crate) struct ElementRun<R: Narrow> {
     pub(crate) first: u32,
     pub(crate) more: u32,
     pub(crate) node: Node<R>,
@@ -99,8 +99,8 @@ impl<R: Narrow> Node<R> {
     }
 
     /// The place itself, where a row stands here or below.
-    pub(crate) fn taken(&self) -> Option<&Node<R>>
-        ensures { option_map (λ node. node.now) result ≡ taken self.now }
+    pub(crate) fn non_empty(&self) -> Option<&Node<R>>
+        ensures { option_map (λ node. node.now) result ≡ if_not_empty self.now }
     {
         match (&self.row, &self.rest) {
             (Some(_), _) | (None, Some(_)) => Some(self),
@@ -118,7 +118,7 @@ impl<R: Narrow> Node<R> {
 
     /// The branch one step below: an element from the index of the rest on is the rest.
     pub(crate) fn step_into(&self, step: &Step) -> Option<&Node<R>>
-        requires { Rise (below self.now) }
+        requires { StepsRise (below self.now) }
         ensures { option_map (λ node. node.now) result ≡ step_into self.now (step_of step.now) }
     {
         match step {
@@ -129,7 +129,7 @@ impl<R: Narrow> Node<R> {
 
     /// The element with an index.
     pub(crate) fn element(&self, number: u32) -> Option<&Node<R>>
-        requires { Rise (below self.now) }
+        requires { StepsRise (below self.now) }
         ensures { option_map (λ node. node.now) result ≡ step_into self.now (index number) }
     {
         let own = find_element(&self.children, number);
@@ -143,11 +143,11 @@ impl<R: Narrow> Node<R> {
     }
 
     /// The way along the branches.
-    pub(crate) fn cursor(&self) -> Cursor<R>
-        ensures all { spread (spans_left result) ≡ below self.now }
+    pub(crate) fn cursor(&self) -> BranchCursor<R>
+        ensures all { branches_of_spans (spans_left result) ≡ below self.now }
         ensures begun { result.begun ≡ None }
     {
-        Cursor {
+        BranchCursor {
             begun: None,
             own: &self.children,
             runs: runs_behind(&self.rest),
@@ -183,7 +183,7 @@ impl<R: Narrow> Node<R> {
 
 impl<R: Narrow> Onward<R> {
     /// A rest behind no elements of its own.
-    pub(crate) fn alone(alloc: Global, from: u64, node: Node<R>) -> Onward<R>
+    pub(crate) fn rest_only(alloc: Global, from: u64, node: Node<R>) -> Onward<R>
         ensures { (result.runs.items ≡ []) × (result.from ≡ from) × (result.node ≡ node) }
     {
         Onward {
@@ -194,12 +194,12 @@ impl<R: Narrow> Onward<R> {
     }
 }
 
-impl<R: Narrow> Run<R> {
+impl<R: Narrow> ElementRun<R> {
     #[cycle(copy)]
-    pub(crate) fn copy(&self, alloc: Global) -> Result<Run<R>, Memory>
+    pub(crate) fn copy(&self, alloc: Global) -> Result<ElementRun<R>, Memory>
         ensures { IfOk result (λ copied. copied ≡ self.now) }
     {
-        Ok(Run {
+        Ok(ElementRun {
             first: self.first,
             more: self.more,
             node: self.node.copy(alloc)?,
@@ -259,7 +259,7 @@ fn copy_rest<R: Narrow>(
 }
 
 #[cycle(copy)]
-fn copy_runs<R: Narrow>(alloc: Global, runs: &[Run<R>]) -> Result<Vec<Run<R>>, Memory>
+fn copy_runs<R: Narrow>(alloc: Global, runs: &[ElementRun<R>]) -> Result<Vec<ElementRun<R>>, Memory>
     ensures { IfOk result (λ copied. copied.items ≡ runs.now) }
 {
     let mut copied = Vec::with_capacity(alloc, runs.len())?;
@@ -270,7 +270,7 @@ fn copy_runs<R: Narrow>(alloc: Global, runs: &[Run<R>]) -> Result<Vec<Run<R>>, M
 }
 
 /// The elements behind those among the branches.
-fn runs_behind<R: Narrow>(rest: &Option<Box<Onward<R>>>) -> &[Run<R>]
+fn runs_behind<R: Narrow>(rest: &Option<Box<Onward<R>>>) -> &[ElementRun<R>]
     ensures { run_branches result.now ≡ runs_in rest.now }
 {
     match rest {
@@ -281,7 +281,7 @@ fn runs_behind<R: Narrow>(rest: &Option<Box<Onward<R>>>) -> &[Run<R>]
 
 /// The branch that stands at a step of its own among the branches.
 pub(crate) fn find<'a, R: Narrow>(children: &'a [Child<R>], step: &Step) -> Option<&'a Node<R>>
-    requires { Rise (branches children.now) }
+    requires { StepsRise (branches children.now) }
     ensures { option_map (λ node. node.now) result
         ≡ find (step_of step.now) (branches children.now) }
 {
@@ -294,7 +294,7 @@ pub(crate) fn find<'a, R: Narrow>(children: &'a [Child<R>], step: &Step) -> Opti
 /// Where the branch at a step is among the branches, or where it would stand.
 #[inline(always)]
 pub(crate) fn place<R: Narrow>(children: &[Child<R>], step: &Step) -> Result<usize, usize>
-    requires { Rise (branches children.now) }
+    requires { StepsRise (branches children.now) }
     ensures { MatchResult result (IsPlace children.now (step_of step.now))
         (IsGap children.now (step_of step.now)) }
 {

@@ -3,11 +3,11 @@ ghost use Rattle.std.specs.Prelude.{◌≡◌, ◌⊎◌, ◌≤◌, ◌+◌, �
 ghost use Rattle.std.specs.Prelude.{IfOk, IfSome};
 ghost use Rattle.std.specs.List.{AllByRecursion};
 ghost use Rattle.std.specs.Option.{option_map};
-ghost use Rattle.cue_table.specs.Form.{IsKept, IsTaken, IsTree};
+ghost use Rattle.cue_table.specs.Form.{IsRowKept, IsTreeTaken, IsTree};
 ghost use Rattle.cue_table.specs.SlotsOfCode.{slot_of};
 ghost use Rattle.cue_table.specs.Tree.{empty};
-ghost use Rattle.cue_table.specs.Inner.Drafts.{opened_along, staying, Becomes, Closes, LeadsOn};
-ghost use Rattle.cue_table.specs.Inner.Opened.{closed, hung, IsOpen};
+ghost use Rattle.cue_table.specs.Inner.Drafts.{opened_along, staying_count, IsDraftWith, IsClosedInto, LeadsOn};
+ghost use Rattle.cue_table.specs.Inner.Opened.{close_trees, hang_branch, IsOpen};
 
 use crate::Slot;
 use crate::begins::begins_right;
@@ -44,12 +44,12 @@ impl<R: Narrow> Model for Open<R> {
 /// How many nodes stay open for a row at a place, and the slots of the place behind theirs. There
 /// is nothing where the place is before that of the last row, or would be in a second rest beside
 /// it.
-pub(crate) fn staying<'a, R: Narrow>(
+pub(crate) fn count_staying<'a, R: Narrow>(
     above: &[Open<R>],
     slots: &'a [Slot],
 ) -> Option<(usize, &'a [Slot])>
     ensures count { option_map (λ found. found.0) result
-        ≡ staying above.now (map slot_of slots.now) }
+        ≡ staying_count above.now (map slot_of slots.now) }
     ensures beyond { IfSome result
         (λ found. map slot_of found.1.now ≡ drop found.0 (map slot_of slots.now)) }
 {
@@ -73,10 +73,10 @@ pub(crate) fn close<R: Narrow>(
     last: &mut Node<R>,
     count: usize,
 ) -> Result<bool, Memory>
-    requires opened { AllByRecursion (IsOpen (IsKept R.refuses R.is_value)) above.old.items }
-    requires form { IsTree (IsKept R.refuses R.is_value) last.old }
-    requires taken { (above.old.items ≡ []) ⊎ IsTaken last.old }
-    ensures { IfOk result (Closes (IsKept R.refuses R.is_value) above.old.items last.old count
+    requires opened { AllByRecursion (IsOpen (IsRowKept R.refuses R.is_value)) above.old.items }
+    requires form { IsTree (IsRowKept R.refuses R.is_value) last.old }
+    requires taken { (above.old.items ≡ []) ⊎ IsTreeTaken last.old }
+    ensures { IfOk result (IsClosedInto (IsRowKept R.refuses R.is_value) above.old.items last.old count
         above.new.items last.new) }
 {
     while above.len() > count {
@@ -101,12 +101,12 @@ pub(crate) fn lead_on<R: Narrow>(
     slot: &Slot,
     branch: Node<R>,
 ) -> Result<bool, Memory>
-    requires opened { AllByRecursion (IsOpen (IsKept R.refuses R.is_value)) above.old.items }
-    requires form { IsTree (IsKept R.refuses R.is_value) branch }
-    requires taken { (above.old.items ≡ []) ⊎ IsTaken branch }
+    requires opened { AllByRecursion (IsOpen (IsRowKept R.refuses R.is_value)) above.old.items }
+    requires form { IsTree (IsRowKept R.refuses R.is_value) branch }
+    requires taken { (above.old.items ≡ []) ⊎ IsTreeTaken branch }
     requires few { length above.old.items ≤ number + 1 }
-    ensures { IfOk result (LeadsOn (IsKept R.refuses R.is_value) (take number above.old.items)
-        (closed (drop number above.old.items) branch) (slot_of slot.now) above.new.items) }
+    ensures { IfOk result (LeadsOn (IsRowKept R.refuses R.is_value) (take number above.old.items)
+        (close_trees (drop number above.old.items) branch) (slot_of slot.now) above.new.items) }
 {
     let next = slot.copy(alloc)?;
     if let Some(parent) = above.get_mut(number) {
@@ -128,11 +128,11 @@ fn hang<R: Narrow>(
     slot: Slot,
     branch: Node<R>,
 ) -> Result<bool, Memory>
-    requires opened { IsOpen (IsKept R.refuses R.is_value) (node.old, slot_of slot) }
-    requires form { IsTree (IsKept R.refuses R.is_value) branch }
-    requires taken { IsTaken branch }
+    requires opened { IsOpen (IsRowKept R.refuses R.is_value) (node.old, slot_of slot) }
+    requires form { IsTree (IsRowKept R.refuses R.is_value) branch }
+    requires taken { IsTreeTaken branch }
     ensures { IfOk result
-        (Becomes (IsKept R.refuses R.is_value) (hung node.old (slot_of slot) branch) node.new) }
+        (IsDraftWith (IsRowKept R.refuses R.is_value) (hang_branch node.old (slot_of slot) branch) node.new) }
 {
     match slot {
         Slot::At(step) => node.children.push(Child::new(alloc, step, branch)?)?,
@@ -140,7 +140,7 @@ fn hang<R: Narrow>(
             if number > INDEXES || !begins_right(&node.children, number, &branch) {
                 return Ok(false);
             }
-            node.rest = Some(Box::new(alloc, Onward::alone(alloc, number, branch))?);
+            node.rest = Some(Box::new(alloc, Onward::rest_only(alloc, number, branch))?);
         }
     }
     Ok(true)

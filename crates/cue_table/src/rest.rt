@@ -1,17 +1,17 @@
 //! Lists with a rest: how they go on, and a rest that begins as early as it can.
 ghost use Rattle.std.specs.Prelude.{◌≡◌, ◌↔◌, ◌≤◌, ◌^◌, IfSome, IfNone};
 ghost use Rattle.std.specs.Option.{option_map};
-ghost use Rattle.cue_table.specs.Form.{IsKept, IsTable, IsTaken};
-ghost use Rattle.cue_table.specs.Inner.Rests.{AreElements, IsLastRun, IsSettled, Repeats};
+ghost use Rattle.cue_table.specs.Form.{IsRowKept, IsTable, IsTreeTaken};
+ghost use Rattle.cue_table.specs.Inner.Rests.{AreElements, IsLastRun, IsSettled, RepeatsRest};
 ghost use Rattle.cue_table.specs.Inner.View.{run_branches};
-ghost use Rattle.cue_table.specs.Tree.{fixed_of, rest_of, rest_tree};
+ghost use Rattle.cue_table.specs.Tree.{fixed_of, rest_below, rest_at};
 
 use crate::branch::behind_last;
-use crate::node::{Node, Onward, Run};
+use crate::node::{ElementRun, Node, Onward};
 use cue_lattice::Narrow;
 
 /// From which index on all elements of a place are alike.
-pub(crate) fn fixed<R: Narrow>(node: &Node<R>) -> u64
+pub(crate) fn fixed_from<R: Narrow>(node: &Node<R>) -> u64
     requires { IsTable R.refuses R.is_value node.now }
     ensures number { result ≡ fixed_of node.now }
     ensures few { result ≤ 2 ^ 32 }
@@ -24,7 +24,7 @@ pub(crate) fn fixed<R: Narrow>(node: &Node<R>) -> u64
 
 /// What each of these elements is.
 pub(crate) fn rest<R: Narrow>(node: &Node<R>) -> Option<&Node<R>>
-    ensures { option_map (λ node. node.now) result ≡ rest_tree (rest_of node.now) }
+    ensures { option_map (λ node. node.now) result ≡ rest_at (rest_below node.now) }
 {
     match &node.rest {
         None => None,
@@ -34,15 +34,19 @@ pub(crate) fn rest<R: Narrow>(node: &Node<R>) -> Option<&Node<R>>
 
 /// How a list goes on that has these elements, and this rest from an index on. The rest begins
 /// earlier where the last elements before it are as it is.
-pub(crate) fn settled<R: Narrow>(mut runs: Vec<Run<R>>, fixed: u64, node: Node<R>) -> Onward<R>
-    requires elements { AreElements (IsKept R.refuses R.is_value) fixed (run_branches runs.items) }
+pub(crate) fn settle_rest<R: Narrow>(
+    mut runs: Vec<ElementRun<R>>,
+    fixed: u64,
+    node: Node<R>,
+) -> Onward<R>
+    requires elements { AreElements (IsRowKept R.refuses R.is_value) fixed (run_branches runs.items) }
     requires few { fixed ≤ 2 ^ 32 }
-    requires taken { IsTaken node }
+    requires taken { IsTreeTaken node }
     requires rest { IsTable R.refuses R.is_value node }
-    ensures { IsSettled (IsKept R.refuses R.is_value) fixed (run_branches runs.items) node result }
+    ensures { IsSettled (IsRowKept R.refuses R.is_value) fixed (run_branches runs.items) node result }
 {
     let mut from = fixed;
-    while let Some(first) = repeated(&runs, from, &node) {
+    while let Some(first) = first_repeated(&runs, from, &node) {
         runs.pop();
         from = u64::from(first);
     }
@@ -50,10 +54,10 @@ pub(crate) fn settled<R: Narrow>(mut runs: Vec<Run<R>>, fixed: u64, node: Node<R
 }
 
 /// The first index of the last run, where this ends at an index and is as the rest from there on.
-fn repeated<R: Narrow>(runs: &[Run<R>], from: u64, rest: &Node<R>) -> Option<u32>
-    requires { AreElements (IsKept R.refuses R.is_value) from (run_branches runs.now) }
+fn first_repeated<R: Narrow>(runs: &[ElementRun<R>], from: u64, rest: &Node<R>) -> Option<u32>
+    requires { AreElements (IsRowKept R.refuses R.is_value) from (run_branches runs.now) }
     ensures some { IfSome result (IsLastRun runs.now from rest.now) }
-    ensures none { IfNone result (¬ Repeats from rest.now (run_branches runs.now)) }
+    ensures none { IfNone result (¬ RepeatsRest from rest.now (run_branches runs.now)) }
 {
     let (last, _) = runs.split_last()?;
     if u64::from(last.last()) + 1 == from && last.node.same(rest) {

@@ -3,7 +3,7 @@ ghost use Rattle.std.specs.Prelude.{◌≡◌, ◌+◌, ◌≤◌, ◌++◌, len
 ghost use Rattle.cue_lattice.specs.Limits.{step_limit};
 ghost use Rattle.cue_table.specs.Depth.{tree_depth};
 ghost use Rattle.cue_table.specs.Form.{IsTable};
-ghost use Rattle.cue_table.specs.Inner.Rows.{beyond};
+ghost use Rattle.cue_table.specs.Inner.Rows.{row_beyond};
 ghost use Rattle.cue_table.specs.Slots.{rows_of};
 
 use crate::{Branch, Place, Slot, Table};
@@ -33,7 +33,7 @@ fn push_rows<'a, R: Narrow>(
     requires { length place.now + tree_depth branch.now ≤ step_limit }
     ensures { OnOk result (map (λ row. (row.0, row.1.now)) rows.new.items
         ≡ map (λ row. (row.0, row.1.now)) rows.old.items
-        ++ map (beyond place.now) (rows_of branch.now)) }
+        ++ map (row_beyond place.now) (rows_of branch.now)) }
 {
     if let Some(row) = branch.row() {
         rows.push((place.copy(alloc)?, row))?;

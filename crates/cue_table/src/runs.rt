@@ -2,14 +2,14 @@
 ghost use Rattle.std.specs.Prelude.{◌≡◌, MatchResult};
 ghost use Rattle.std.specs.Option.{option_map};
 ghost use Rattle.cue_lattice.specs.Path.{index};
-ghost use Rattle.cue_table.specs.Inner.Form.{Rise};
+ghost use Rattle.cue_table.specs.Inner.Form.{StepsRise};
 ghost use Rattle.cue_table.specs.Inner.Alike.{AreAlike, IsRun, IsBetween, run_cmp};
 ghost use Rattle.cue_table.specs.Inner.Place.{IsGap, IsPlace};
 ghost use Rattle.cue_table.specs.Inner.View.{branches, run_branches};
 ghost use Rattle.cue_table.specs.Tree.{below, find, step_into};
 
 use crate::child::Child;
-use crate::node::{Node, Run, place};
+use crate::node::{ElementRun, Node, place};
 use cue_lattice::Narrow;
 use cue_row::Step;
 use std::cmp::Ordering;
@@ -21,7 +21,7 @@ pub(crate) struct FoundElement<'a, R: Narrow> {
     pub(crate) end: u64,
 }
 
-impl<R: Narrow> Run<R> {
+impl<R: Narrow> ElementRun<R> {
     /// Whether its elements stand before an index, at it, or behind it.
     fn compare(&self, number: u32) -> Ordering
         ensures { result ≡ run_cmp number self.now }
@@ -37,16 +37,16 @@ impl<R: Narrow> Run<R> {
 }
 
 /// Where the run of an element is among runs, or where it would stand.
-fn run_place<R: Narrow>(runs: &[Run<R>], number: u32) -> Result<usize, usize>
-    requires { Rise (run_branches runs.now) }
+fn run_place<R: Narrow>(runs: &[ElementRun<R>], number: u32) -> Result<usize, usize>
+    requires { StepsRise (run_branches runs.now) }
     ensures { MatchResult result (IsRun runs.now number) (IsBetween runs.now number) }
 {
     runs.binary_search_by(|run| run.compare(number))
 }
 
 /// The element with an index among runs.
-pub(crate) fn find_run<R: Narrow>(runs: &[Run<R>], number: u32) -> Option<&Node<R>>
-    requires { Rise (run_branches runs.now) }
+pub(crate) fn find_run<R: Narrow>(runs: &[ElementRun<R>], number: u32) -> Option<&Node<R>>
+    requires { StepsRise (run_branches runs.now) }
     ensures { option_map (λ node. node.now) result
         ≡ find (index number) (run_branches runs.now) }
 {
@@ -57,8 +57,8 @@ pub(crate) fn find_run<R: Narrow>(runs: &[Run<R>], number: u32) -> Option<&Node<
 }
 
 /// The element with an index among runs, and up to where these are alike.
-fn found_in_runs<R: Narrow>(runs: &[Run<R>], number: u32) -> FoundElement<R>
-    requires { Rise (run_branches runs.now) }
+fn look_in_runs<R: Narrow>(runs: &[ElementRun<R>], number: u32) -> FoundElement<R>
+    requires { StepsRise (run_branches runs.now) }
     ensures node { option_map (λ node. node.now) result.node
         ≡ find (index number) (run_branches runs.now) }
     ensures alike { AreAlike number result.end (λ i. find (index i) (run_branches runs.now)) }
@@ -81,7 +81,7 @@ fn found_in_runs<R: Narrow>(runs: &[Run<R>], number: u32) -> FoundElement<R>
 
 /// Where an element is among branches, or where it would stand.
 fn element_place<R: Narrow>(children: &[Child<R>], number: u32) -> Result<usize, usize>
-    requires { Rise (branches children.now) }
+    requires { StepsRise (branches children.now) }
     ensures { MatchResult result (IsPlace children.now (index number))
         (IsGap children.now (index number)) }
 {
@@ -90,7 +90,7 @@ fn element_place<R: Narrow>(children: &[Child<R>], number: u32) -> Result<usize,
 
 /// The element with an index among branches.
 pub(crate) fn find_element<R: Narrow>(children: &[Child<R>], number: u32) -> Option<&Node<R>>
-    requires { Rise (branches children.now) }
+    requires { StepsRise (branches children.now) }
     ensures { option_map (λ node. node.now) result
         ≡ find (index number) (branches children.now) }
 {
@@ -101,8 +101,8 @@ pub(crate) fn find_element<R: Narrow>(children: &[Child<R>], number: u32) -> Opt
 }
 
 /// The element with an index among branches, and up to where these are alike.
-fn found_among<R: Narrow>(children: &[Child<R>], number: u32) -> FoundElement<R>
-    requires { Rise (branches children.now) }
+fn look_among<R: Narrow>(children: &[Child<R>], number: u32) -> FoundElement<R>
+    requires { StepsRise (branches children.now) }
     ensures node { option_map (λ node. node.now) result.node
         ≡ find (index number) (branches children.now) }
     ensures alike { AreAlike number result.end (λ i. find (index i) (branches children.now)) }
@@ -121,7 +121,7 @@ fn found_among<R: Narrow>(children: &[Child<R>], number: u32) -> FoundElement<R>
 
 /// The index of the next element among branches, where none has this index.
 fn gap_end<R: Narrow>(children: &[Child<R>], at: usize, number: u32) -> u64
-    requires rise { Rise (branches children.now) }
+    requires rise { StepsRise (branches children.now) }
     requires gap { IsGap children.now (index number) at }
     ensures { AreAlike number result (λ i. find (index i) (branches children.now)) }
 {
@@ -137,13 +137,13 @@ fn gap_end<R: Narrow>(children: &[Child<R>], at: usize, number: u32) -> u64
 
 impl<R: Narrow> Node<R> {
     /// The element with an index, and up to where all are alike.
-    pub(crate) fn found_at(&self, number: u32) -> FoundElement<R>
-        requires { Rise (below self.now) }
+    pub(crate) fn look_at_index(&self, number: u32) -> FoundElement<R>
+        requires { StepsRise (below self.now) }
         ensures node { option_map (λ node. node.now) result.node
             ≡ step_into self.now (index number) }
         ensures alike { AreAlike number result.end (λ i. step_into self.now (index i)) }
     {
-        let own = found_among(&self.children, number);
+        let own = look_among(&self.children, number);
         let Some(onward) = &self.rest else {
             return own;
         };
@@ -153,7 +153,7 @@ impl<R: Narrow> Node<R> {
                 end: u64::MAX,
             };
         }
-        let further = found_in_runs(&onward.runs, number);
+        let further = look_in_runs(&onward.runs, number);
         FoundElement {
             node: own.node.or(further.node),
             end: own.end.min(further.end).min(onward.from),

@@ -1,13 +1,13 @@
 //! Whether two places are the same.
 ghost use Rattle.std.specs.Prelude.{◌≡◌, ◌↔◌, IsTrue};
-ghost use Rattle.cue_table.specs.Spans.{spread};
+ghost use Rattle.cue_table.specs.Spans.{branches_of_spans};
 ghost use Rattle.cue_table.specs.Tree.{below};
 ghost use Rattle.cue_table.specs.Inner.Cursors.{spans_left};
 ghost use Rattle.cue_table.specs.Inner.View.{rest_in};
 
 use crate::Span;
 use crate::child::Child;
-use crate::cursor::Cursor;
+use crate::cursor::BranchCursor;
 use crate::node::{Node, Onward};
 use cue_lattice::Narrow;
 
@@ -75,8 +75,8 @@ fn same_children<R: Narrow>(left: &[Child<R>], right: &[Child<R>]) -> bool
 /// Whether the same branches are left on both ways. Elements that are alike on both are compared
 /// once.
 #[cycle(same)]
-fn same_below<'a, R: Narrow>(mut left: Cursor<'a, R>, mut right: Cursor<'a, R>) -> bool
-    ensures { IsTrue result ↔ (spread (spans_left left.entry) ≡ spread (spans_left right.entry)) }
+fn same_below<'a, R: Narrow>(mut left: BranchCursor<'a, R>, mut right: BranchCursor<'a, R>) -> bool
+    ensures { IsTrue result ↔ (branches_of_spans (spans_left left.entry) ≡ branches_of_spans (spans_left right.entry)) }
 {
     while let Some((span, node)) = left.next() {
         let Some((other_span, other)) = right.next() else {

@@ -2,7 +2,7 @@
 ghost use Rattle.std.specs.Prelude.{◌≡◌, ◌↔◌, IfOk, IsTrue};
 ghost use Rattle.cue_row.specs.Steps.{step_of};
 ghost use Rattle.cue_row.specs.ValidRow.{IsWordStep};
-ghost use Rattle.cue_table.specs.Spans.{first_of, more_in};
+ghost use Rattle.cue_table.specs.Spans.{first_of_span, more_in};
 ghost use Rattle.cue_table.specs.StepsOfCode.{step_at, span_of};
 
 use cue_lattice::{Memory, Text, WORD_LIMIT};
@@ -73,7 +73,7 @@ impl<'a> StepRef<'a> {
 impl<'a> Span<'a> {
     /// The step to the first of the branches.
     pub fn first(self) -> StepRef<'a>
-        ensures { step_at result ≡ first_of (span_of self.entry) }
+        ensures { step_at result ≡ first_of_span (span_of self.entry) }
     {
         match self {
             Span::Label(label) => StepRef::Label(label),

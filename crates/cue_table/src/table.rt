@@ -2,14 +2,14 @@ ghost use Rattle.std.specs.Prelude.{◌≡◌, ◌↔◌, ◌⊎◌, ◌+◌, �
 ghost use Rattle.std.specs.Prelude.{IsOk, IsTrue, OnErr, OnOk};
 ghost use Rattle.std.specs.Option.{is_some, option_map, option_and_then};
 ghost use Rattle.cue_lattice.specs.Limits.{step_limit};
-ghost use Rattle.cue_table.specs.Tree.{empty, node, below, rest_of, taken, branch_at, row_at};
+ghost use Rattle.cue_table.specs.Tree.{empty, node, below, rest_below, if_not_empty, branch_at, row_at};
 ghost use Rattle.cue_table.specs.Tree.{row_of};
 ghost use Rattle.cue_table.specs.Depth.{tree_depth};
 ghost use Rattle.cue_table.specs.Form.{IsTable};
 ghost use Rattle.cue_table.specs.Meet.{IsAdded, IsMet, IsRestAdded};
 
 use crate::Branch;
-use crate::chain::{hung_along, rest_alone};
+use crate::chain::{build_along, rest_alone};
 use crate::meet::{meet_into, narrow_row};
 use crate::node::Node;
 use cue_lattice::{Memory, Narrow};
@@ -67,10 +67,10 @@ impl<R: Narrow> Table<R> {
 
     /// The branch at a path, where a row stands there or below.
     pub fn branch(&self, path: &Path) -> Option<Branch<R>>
-        ensures branch { result ≡ option_and_then taken (branch_at self.now path.now) }
+        ensures branch { result ≡ option_and_then if_not_empty (branch_at self.now path.now) }
         ensures form { IsTable R.refuses R.is_value self.now }
     {
-        let node = self.root.walk(path.steps())?.taken()?;
+        let node = self.root.walk(path.steps())?.non_empty()?;
         Some(Branch::new(node))
     }
 
@@ -120,10 +120,10 @@ impl<R: Narrow> Table<R> {
     {
         let alloc = self.alloc;
         let Table { alloc: _, root } = other;
-        if root.taken().is_none() {
+        if root.non_empty().is_none() {
             return Ok(());
         }
-        if self.root.taken().is_none() {
+        if self.root.non_empty().is_none() {
             self.root = root;
             return Ok(());
         }
@@ -143,7 +143,7 @@ impl<R: Narrow> Table<R> {
         }
         row.known();
         let lone = Node::of_row(alloc, row.copy(alloc)?);
-        let root = hung_along(alloc, path.steps(), lone)?;
+        let root = build_along(alloc, path.steps(), lone)?;
         self.meet_with(Table { alloc, root })
     }
 
@@ -174,11 +174,11 @@ impl<R: Narrow> Table<R> {
         ensures err { OnErr result (self.new ≡ self.old) }
     {
         let alloc = self.alloc;
-        if rest.root.taken().is_none() {
+        if rest.root.non_empty().is_none() {
             return Ok(());
         }
         let list = rest_alone(alloc, u64::from(from), rest.root.copy(alloc)?)?;
-        let root = hung_along(alloc, path.steps(), list)?;
+        let root = build_along(alloc, path.steps(), list)?;
         self.meet_with(Table { alloc, root })
     }
 
@@ -196,7 +196,7 @@ impl<R: Narrow> Table<R> {
             alloc: _,
             root: node,
         } = rest;
-        if node.taken().is_none() {
+        if node.non_empty().is_none() {
             return Ok(());
         }
         let root = rest_alone(alloc, from, node)?;
@@ -206,7 +206,7 @@ impl<R: Narrow> Table<R> {
     /// Takes the row off the root, where one stands there.
     pub fn take_row(&mut self) -> Option<R>
         ensures row { result ≡ row_of self.old }
-        ensures others { self.new ≡ node None (below self.old) (rest_of self.old) }
+        ensures others { self.new ≡ node None (below self.old) (rest_below self.old) }
     {
         self.root.row.take()
     }
@@ -224,9 +224,9 @@ impl<R: Narrow> Table<R> {
 
     /// Whether a row stands at the root or below.
     pub(crate) fn has_rows(&self) -> bool
-        ensures { result ≡ is_some (taken self.now) }
+        ensures { result ≡ is_some (if_not_empty self.now) }
     {
-        self.root.taken().is_some()
+        self.root.non_empty().is_some()
     }
 
     /// The root, with all that is below.

@@ -1,11 +1,11 @@
 //! Which tables are valid.
 ghost use Rattle.std.specs.Prelude.{◌≡◌, ◌↔◌, ◌⊎◌, IsTrue};
-ghost use Rattle.cue_row.specs.Kinds.{IsKind};
-ghost use Rattle.cue_row.specs.Row.{IsRow, Refuses};
+ghost use Rattle.cue_row.specs.Kinds.{IsRowKind};
+ghost use Rattle.cue_row.specs.Row.{IsRow, RefusesAsked};
 ghost use Rattle.cue_row.specs.declared.parts.RowParts.{RowParts as RowValue};
 ghost use Rattle.cue_row.specs.declared.kind.RowKind.TheVariants.{Nothing};
 ghost use Rattle.cue_row.specs.declared.level.Level.TheVariants.{Optional};
-ghost use Rattle.cue_table.specs.Tree.{Tree, row_of, rest_of, below, none, no_rest};
+ghost use Rattle.cue_table.specs.Tree.{Tree, row_of, rest_below, below, none, no_rest};
 ghost use Rattle.cue_table.specs.Form.{IsTable};
 ghost use Rattle.cue_table.specs.Meet.{IsMet};
 ghost use Rattle.cue_table.specs.StepsOfCode.{step_at};
@@ -31,7 +31,7 @@ impl Table<Row> {
 
 /// Valid tables are met to a valid table: the law of a call that does nothing.
 pub fn valid_tables_meet()
-    ensures { (a b met : Tree RowValue) → IsTable Refuses IsRow met → IsMet Refuses a b met
+    ensures { (a b met : Tree RowValue) → IsTable RefusesAsked IsRow met → IsMet RefusesAsked a b met
         → IsValidTable a → IsValidTable b → IsValidTable met }
 {}
 
@@ -50,7 +50,7 @@ fn is_root(row: &Row) -> bool
 
 /// Whether there is no branch below a place.
 fn is_end(branch: &Branch<Row>) -> bool
-    ensures { IsTrue result ↔ ((below branch.now ≡ none) × (rest_of branch.now ≡ no_rest)) }
+    ensures { IsTrue result ↔ ((below branch.now ≡ none) × (rest_below branch.now ≡ no_rest)) }
 {
     if branch.rest().is_some() {
         return false;
@@ -132,7 +132,7 @@ fn may_be_element(parent: &Row, row: &Row) -> bool
 
 /// Whether a row is of this kind, or lets nothing stand.
 fn is_kind(row: &Row, kind: RowKind) -> bool
-    ensures { IsTrue result ↔ (IsKind row.now kind ⊎ IsKind row.now Nothing) }
+    ensures { IsTrue result ↔ (IsRowKind row.now kind ⊎ IsRowKind row.now Nothing) }
 {
     match row.kind() {
         None => false,

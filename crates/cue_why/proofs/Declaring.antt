@@ -6,7 +6,7 @@ use Rattle.cue_lattice.specs.Path.{Step, label, index, Path}
 use Rattle.cue_lattice.specs.Question.{Refusals, level_at_most}
 use Rattle.cue_report.specs.Answers.{IsDemanded}
 use Rattle.cue_policies.specs.Patterns.{IsPatternOf}
-use Rattle.cue_policies.specs.View.{Part, IsPatternStep, EndsInPattern, PartRefuses, Declares, IsDeclared, ViewRefuses}
+use Rattle.cue_policies.specs.View.{ViewedPart, IsPatternStep, EndsInPattern, PartRefuses, DeclaresAt, IsDeclaredInView, ViewRefuses}
 use Rattle.cue_policies.specs.declared.kind.LayerKind.{LayerKind}
 use Rattle.cue_policies.proofs.Views.{pick, put, more_refuse_more}
 use Rattle.cue_why.specs.Finding.{Makes}
@@ -22,7 +22,7 @@ named kind (label own) l h plain = ⊎_elim
     h
 named kind (index n) l h plain = absurd h
 
-declares_asked : (part : Part) (place : Path) (l : List ℕ) → PartRefuses part (place ++ label l ∷ []) (level_at_most 0) → Declares part place l
+declares_asked : (part : ViewedPart) (place : Path) (l : List ℕ) → PartRefuses part (place ++ label l ∷ []) (level_at_most 0) → DeclaresAt part place l
 declares_asked part place l h =
     let split = along_out part.kind h.0 place (label l) h.1 in
     let plain : ¬ IsPatternStep part.kind split.1 = λ is. h.3 (subst (λ w. EndsInPattern part.kind w) (sym split.2) (ends_in part.kind split.0 split.1 is), tt) in
@@ -30,17 +30,17 @@ declares_asked part place l h =
     let e : h.0 ≡ split.0 ++ label l ∷ [] = split.2 ∙ ap (λ s. split.0 ++ s ∷ []) own.0 in
     (split.0, [], level_at_most 0, split.3, own.1, subst (λ w. part.refuses w (level_at_most 0)) e h.2)
 
-module _ {X : Type 0} (part : X → Part) (members : List X) where
+module _ {X : Type 0} (part : X → ViewedPart) (members : List X) where
   -- what one of the parts refuses, whatever is declared
   abbrev pub Line : Refusals
   Line path question = OneOf (λ x. PartRefuses (part x) path question) members
 
-  declared_step : (place : Path) (l : List ℕ) → Line (place ++ label l ∷ []) (level_at_most 0) → OneOf (λ x. Declares (part x) place l) members
+  declared_step : (place : Path) (l : List ℕ) → Line (place ++ label l ∷ []) (level_at_most 0) → OneOf (λ x. DeclaresAt (part x) place l) members
   declared_step place l h =
       let one = pick (λ x. PartRefuses (part x) (place ++ label l ∷ []) (level_at_most 0)) members h in
-      put (λ x. Declares (part x) place l) members one.0 one.1 (declares_asked (part one.0) place l one.2)
+      put (λ x. DeclaresAt (part x) place l) members one.0 one.1 (declares_asked (part one.0) place l one.2)
 
-  declared_along : (path : Path) → IsDemanded Line path → (place after : Path) → path ≡ place ++ after → IsDeclared part members place
+  declared_along : (path : Path) → IsDemanded Line path → (place after : Path) → path ≡ place ++ after → IsDeclaredInView part members place
   declared_along path demanded place after e before l behind is =
       declared_step before l (demanded before (behind ++ after) (label l) (e ∙ ap (λ p. p ++ after) is ∙ append_assoc before (label l ∷ behind) after))
 
@@ -59,7 +59,7 @@ module _ {X : Type 0} (part : X → Part) (members : List X) where
   view_makes view path makes = makes_more view Line (ViewRefuses part members) path (line_narrow path) makes
 
 -- more parts still make a finding
-pub makes_with_more : {X : Type 0} (part : X → Part) (view : Refusals) (path : Path) (some all : List X)
+pub makes_with_more : {X : Type 0} (part : X → ViewedPart) (view : Refusals) (path : Path) (some all : List X)
     → ((x : X) → OneOf (λ y. y ≡ x) some → OneOf (λ y. y ≡ x) all) → Makes view (ViewRefuses part some) path → Makes view (ViewRefuses part all) path
 makes_with_more part view path some all among makes =
     makes_more view (ViewRefuses part all) (ViewRefuses part some) path (record { at = λ place after e question h. more_refuse_more part some all among place question h }) makes

@@ -4,7 +4,7 @@ use Rattle.std.proofs.lemmas.List.{take_rest}
 use Rattle.cue_lattice.specs.Path.{Step, label, index, Path}
 use Rattle.cue_lattice.specs.Question.{Question, Refusals, allows}
 use Rattle.cue_report.specs.Answers.{IsStepDemanded, IsDemanded, IsNotAllowed}
-use Rattle.cue_row.specs.Row.{RowRefuses}
+use Rattle.cue_row.specs.Row.{RowRefusesQuestion}
 use Rattle.cue_row.specs.Steps.{step_of}
 use Rattle.cue_row.specs.declared.parts.RowParts.{RowParts as Row}
 use Rattle.cue_row.specs.declared.step.Step.{Step as Code}
@@ -84,36 +84,36 @@ module _ {R : Type 0} (refuses : R → Question → Type 0) where
 -- ---- as the code cuts lists
 module _ (path : List Code) (rows : List Row) (step : Code) (above : Row) (rest : List Code) (below : List Row) where
   abbrev Whole : Refusals
-  Whole = TrailRefuses RowRefuses (map step_of path) rows
+  Whole = TrailRefuses RowRefusesQuestion (map step_of path) rows
 
   abbrev Part : Refusals
-  Part = TrailRefuses RowRefuses (map step_of rest) below
+  Part = TrailRefuses RowRefusesQuestion (map step_of rest) below
 
   -- both lists are cut behind their first elements
   pub record AreCut : Type 0 where
     pub steps : path ≡ step ∷ rest
     pub trail : rows ≡ above ∷ below
 
-  pub demanded_cut : AreCut → IsDemanded Whole (map step_of path) ↔ (IsDemandedBy RowRefuses above (step_of step) below × IsDemanded Part (map step_of rest))
+  pub demanded_cut : AreCut → IsDemanded Whole (map step_of path) ↔ (IsDemandedBy RowRefusesQuestion above (step_of step) below × IsDemanded Part (map step_of rest))
   demanded_cut cut =
-      let P : List Code → List Row → Type 0 = λ p rs. IsDemanded (TrailRefuses RowRefuses (map step_of p) rs) (map step_of p) ↔ (IsDemandedBy RowRefuses above (step_of step) below × IsDemanded Part (map step_of rest)) in
-      subst (λ p. P p rows) (sym cut.steps) (subst (λ rs. P (step ∷ rest) rs) (sym cut.trail) (demanded_further RowRefuses (step_of step) (map step_of rest) above below))
+      let P : List Code → List Row → Type 0 = λ p rs. IsDemanded (TrailRefuses RowRefusesQuestion (map step_of p) rs) (map step_of p) ↔ (IsDemandedBy RowRefusesQuestion above (step_of step) below × IsDemanded Part (map step_of rest)) in
+      subst (λ p. P p rows) (sym cut.steps) (subst (λ rs. P (step ∷ rest) rs) (sym cut.trail) (demanded_further RowRefusesQuestion (step_of step) (map step_of rest) above below))
 
-  pub not_allowed_cut_last : AreCut → rest ≡ [] → IsNotAllowed Whole (map step_of path) ↔ IsRefusedBy RowRefuses above (step_of step)
+  pub not_allowed_cut_last : AreCut → rest ≡ [] → IsNotAllowed Whole (map step_of path) ↔ IsRefusedBy RowRefusesQuestion above (step_of step)
   not_allowed_cut_last cut none =
-      let P : List Code → List Row → Type 0 = λ p rs. IsNotAllowed (TrailRefuses RowRefuses (map step_of p) rs) (map step_of p) ↔ IsRefusedBy RowRefuses above (step_of step) in
-      subst (λ p. P p rows) (sym (cut.steps ∙ ap (λ r. step ∷ r) none)) (subst (λ rs. P (step ∷ []) rs) (sym cut.trail) (not_allowed_last RowRefuses (step_of step) above below))
+      let P : List Code → List Row → Type 0 = λ p rs. IsNotAllowed (TrailRefuses RowRefusesQuestion (map step_of p) rs) (map step_of p) ↔ IsRefusedBy RowRefusesQuestion above (step_of step) in
+      subst (λ p. P p rows) (sym (cut.steps ∙ ap (λ r. step ∷ r) none)) (subst (λ rs. P (step ∷ []) rs) (sym cut.trail) (not_allowed_last RowRefusesQuestion (step_of step) above below))
 
   pub not_allowed_cut_more : AreCut → 0 < length rest → IsNotAllowed Whole (map step_of path) ↔ IsNotAllowed Part (map step_of rest)
   not_allowed_cut_more cut some =
-      let P : List Code → List Row → Type 0 = λ p rs. IsNotAllowed (TrailRefuses RowRefuses (map step_of p) rs) (map step_of p) ↔ IsNotAllowed Part (map step_of rest) in
+      let P : List Code → List Row → Type 0 = λ p rs. IsNotAllowed (TrailRefuses RowRefusesQuestion (map step_of p) rs) (map step_of p) ↔ IsNotAllowed Part (map step_of rest) in
       subst (λ p. P p rows) (sym cut.steps) (subst (λ rs. P (step ∷ rest) rs) (sym cut.trail) (further_of rest some))
     where
       further_of : (more : List Code) → 0 < length more
-          → IsNotAllowed (TrailRefuses RowRefuses (step_of step ∷ map step_of more) (above ∷ below)) (step_of step ∷ map step_of more)
-          ↔ IsNotAllowed (TrailRefuses RowRefuses (map step_of more) below) (map step_of more)
+          → IsNotAllowed (TrailRefuses RowRefusesQuestion (step_of step ∷ map step_of more) (above ∷ below)) (step_of step ∷ map step_of more)
+          ↔ IsNotAllowed (TrailRefuses RowRefusesQuestion (map step_of more) below) (map step_of more)
       further_of [] h = absurd (omega arith)
-      further_of (next ∷ more) h = not_allowed_further RowRefuses (step_of step) (step_of next) (map step_of more) above below
+      further_of (next ∷ more) h = not_allowed_further RowRefusesQuestion (step_of step) (step_of next) (map step_of more) above below
 
 cut_list : {X : Type 0} (xs : List X) (x : X) → 0 < length xs → x ≡ get_or xs 0 x → xs ≡ x ∷ take (length xs - 1) (drop 1 xs)
 cut_list [] x h e = absurd (omega arith)

@@ -4,9 +4,9 @@ use Rattle.std.specs.Option.{option_and_then}
 use Rattle.cue_lattice.specs.OneOf.{OneOf}
 use Rattle.cue_lattice.specs.Path.{Step, label, index, Path}
 use Rattle.cue_lattice.specs.Question.{Question, may_be, usual, struct, list, allows, level_at_most, length_at_most, length_at_least}
-use Rattle.cue_policies.specs.Patterns.{Concerns, IsNamed}
+use Rattle.cue_policies.specs.Patterns.{Concerns, IsNamedLabel}
 use Rattle.cue_policies.specs.Tables.{table_part}
-use Rattle.cue_policies.specs.View.{IsAlong, EndsInPattern, IsLevel, PartRefuses}
+use Rattle.cue_policies.specs.View.{IsAlong, EndsInPattern, IsLevelInView, PartRefuses}
 use Rattle.cue_policies.specs.declared.kind.LayerKind.{LayerKind}
 use Rattle.cue_policies.specs.declared.kind.LayerKind.TheVariants.{Layer, Policy}
 use Rattle.cue_policies.proofs.Branches.{label_listed}
@@ -19,7 +19,7 @@ use Rattle.cue_row.specs.declared.parts.RowParts.{RowParts as Row}
 use Rattle.cue_row.specs.declared.question.Question as program
 use Rattle.cue_table.specs.Refuses.{RowRefuses}
 use Rattle.cue_table.specs.Tree.{Tree, branch_at, row_of, step_into, labels_of, below}
-use Rattle.cue_why.specs.Inner.Parts.{IsStepAlong, IsIn, AreParts, IsOwnBelow, IsBelow, Holds, IsHeldRow, GainsPart}
+use Rattle.cue_why.specs.Inner.Parts.{IsStepAlong, IsIn, AreParts, IsOwnBelow, IsBelow, HoldsPart, IsHeldRow, GainsPart}
 use Rattle.cue_why.specs.declared.part.WrittenPart.{WrittenPart}
 use Rattle.cue_why.proofs.Along.{along_nil, along_in, along_out}
 use Rattle.cue_why.proofs.Mets.{met_asked}
@@ -99,7 +99,7 @@ below_layer (index n) part next = below_index Layer n part next
 below_layer (label l) part next = (λ h. into h.0 h.1 h.2, λ h. (label l, inl (refl, λ f. f), h))
   where
     into : (own : Step) → IsStepAlong Layer own (label l) → IsOwnBelow own part next → IsOwnBelow (label l) part next
-    into (label own) along at = ⊎_elim (λ (named : IsNamed Layer own l). subst (λ m. IsOwnBelow (label m) part next) named.0 at) (λ bound. absurd bound.0) along
+    into (label own) along at = ⊎_elim (λ (named : IsNamedLabel Layer own l). subst (λ m. IsOwnBelow (label m) part next) named.0 at) (λ bound. absurd bound.0) along
     into (index m) along at = absurd along
 
 -- what a part has at one of its labels, where that concerns another
@@ -121,26 +121,26 @@ labels_below l part next = (
         put (IsLabelBelow l part next) (labels_of (below part.branch)) one.0 one.1 (subst Q (sym one.2) (along, at))
 
 -- ---- what parts refuse
-row_there : (found : Option (Tree Row)) (question : Question) → RowRefuses rows.RowRefuses (option_and_then row_of found) question
-    → (b : Tree Row) × (found ≡ Some b) × RowRefuses rows.RowRefuses (row_of b) question
+row_there : (found : Option (Tree Row)) (question : Question) → RowRefuses rows.RowRefusesQuestion (option_and_then row_of found) question
+    → (b : Tree Row) × (found ≡ Some b) × RowRefuses rows.RowRefusesQuestion (row_of b) question
 row_there None question h = absurd h
 row_there (Some b) question h = (b, refl, h)
 
 pub parts_refuse : (kind : LayerKind) (root : Tree Row) (place : Path) (parts : List WrittenPart) → AreParts kind root place parts
-    → (question : Question) → OneOf (λ part. Holds kind part question) parts ↔ PartRefuses (table_part (kind, root)) place question
+    → (question : Question) → OneOf (λ part. HoldsPart kind part question) parts ↔ PartRefuses (table_part (kind, root)) place question
 parts_refuse kind root place parts are question = (
   λ h.
-      let one = pick (λ part. Holds kind part question) parts h in
+      let one = pick (λ part. HoldsPart kind part question) parts h in
       let at = (are one.0).0 one.1 in
-      (one.0.written, at.0, subst (λ found. RowRefuses rows.RowRefuses (option_and_then row_of found) question) (sym at.1) one.2.0, one.2.1),
+      (one.0.written, at.0, subst (λ found. RowRefuses rows.RowRefusesQuestion (option_and_then row_of found) question) (sym at.1) one.2.0, one.2.1),
   λ h.
       let there = row_there (branch_at root h.0) question h.2 in
       let part : WrittenPart = record { written = h.0; branch = there.0 } in
-      put (λ part. Holds kind part question) parts part ((are part).1 (h.1, there.1)) (there.2, h.3),
+      put (λ part. HoldsPart kind part question) parts part ((are part).1 (h.1, there.1)) (there.2, h.3),
 )
 
 -- ---- rows as they count in the view
-loose : (row : Row) (question : Question) → rows.RowRefuses (at_level Optional row) question ↔ (rows.RowRefuses row question × ¬ IsLevel question)
+loose : (row : Row) (question : Question) → rows.RowRefusesQuestion (at_level Optional row) question ↔ (rows.RowRefusesQuestion row question × ¬ IsLevelInView question)
 loose row (may_be scalar) = (λ h. (h, λ f. f), λ h. h.0)
 loose row (usual scalar) = (λ h. (h, λ f. f), λ h. h.0)
 loose row struct = (λ h. (h, λ f. f), λ h. h.0)
@@ -151,14 +151,14 @@ loose row (length_at_most n) = (λ h. (h, λ f. f), λ h. h.0)
 loose row (length_at_least n) = (λ h. (h, λ f. f), λ h. h.0)
 
 pub held_refuses : (kind : LayerKind) (written : Path) (row held : Row) (question : Question) → IsHeldRow kind written row held
-    → rows.RowRefuses held question ↔ (rows.RowRefuses row question × ¬ (EndsInPattern kind written × IsLevel question))
+    → rows.RowRefusesQuestion held question ↔ (rows.RowRefusesQuestion row question × ¬ (EndsInPattern kind written × IsLevelInView question))
 held_refuses kind written row held question is = ⊎_elim
     (λ ends.
     let at = loose row question in
-    let P : Row → Type 0 = λ r. rows.RowRefuses r question ↔ (rows.RowRefuses row question × ¬ (EndsInPattern kind written × IsLevel question)) in
+    let P : Row → Type 0 = λ r. rows.RowRefusesQuestion r question ↔ (rows.RowRefusesQuestion row question × ¬ (EndsInPattern kind written × IsLevelInView question)) in
     subst P (sym ends.1) (λ h. let both = at.0 h in (both.0, λ e. both.1 e.1), λ h. at.1 (h.0, λ level. h.1 (ends.0, level))))
     (λ not.
-    let P : Row → Type 0 = λ r. rows.RowRefuses r question ↔ (rows.RowRefuses row question × ¬ (EndsInPattern kind written × IsLevel question)) in
+    let P : Row → Type 0 = λ r. rows.RowRefusesQuestion r question ↔ (rows.RowRefusesQuestion row question × ¬ (EndsInPattern kind written × IsLevelInView question)) in
     subst P (sym not.1) (λ h. (h, λ e. not.0 e.0), λ h. h.0))
     is
 
@@ -191,11 +191,11 @@ labels_start l part next rest old e =
 
 -- ---- rows of parts
 pub gains_row : (kind : LayerKind) (old : Row) (part : WrittenPart) (new own held : Row) → row_of part.branch ≡ Some own → IsHeldRow kind part.written own held
-    → ((question : program.Question) → rows.Refuses new question ↔ (rows.Refuses old question ⊎ rows.Refuses held question)) → GainsPart kind old part new
+    → ((question : program.Question) → rows.RefusesAsked new question ↔ (rows.RefusesAsked old question ⊎ rows.RefusesAsked held question)) → GainsPart kind old part new
 gains_row kind old part new own held e is met question =
     let both = met_asked old held new met question in
     let counts = held_refuses kind part.written own held question is in
-    let P : Option Row → Type 0 = λ r. RowRefuses rows.RowRefuses r question × ¬ (EndsInPattern kind part.written × IsLevel question) in (
+    let P : Option Row → Type 0 = λ r. RowRefuses rows.RowRefusesQuestion r question × ¬ (EndsInPattern kind part.written × IsLevelInView question) in (
       λ h. ⊎_elim (λ o. inl o) (λ g. inr (subst P (sym e) (counts.0 g))) (both.0 h),
       λ h. both.1 (⊎_elim (λ o. inl o) (λ g. inr (counts.1 (subst P e g))) h),
     )
@@ -203,7 +203,7 @@ gains_row kind old part new own held e is met question =
 pub gains_none : (kind : LayerKind) (old : Row) (part : WrittenPart) → row_of part.branch ≡ None → GainsPart kind old part old
 gains_none kind old part e question = (
   λ h. inl h,
-  λ h. ⊎_elim (λ o. o) (λ g. absurd (subst (λ r. RowRefuses rows.RowRefuses r question) e g.0)) h,
+  λ h. ⊎_elim (λ o. o) (λ g. absurd (subst (λ r. RowRefuses rows.RowRefusesQuestion r question) e g.0)) h,
 )
 
 -- ---- what was put behind others, in other terms

@@ -1,7 +1,7 @@
 -- One pass over a list leaves a least one, where what suffices still does with more elements.
 use Rattle.std.proofs.Common.{◌≡◌, ◌⊎◌, inl, inr, ⊎_elim, List, [], ◌∷◌, ◌++◌, refl, sym, ap, subst, ◌∙◌, append_assoc, append-nil}
 use Rattle.cue_lattice.specs.OneOf.{OneOf}
-use Rattle.cue_why.specs.Least.{IsLeft, IsLeast}
+use Rattle.cue_why.specs.Least.{IsLeft, IsLeastList}
 
 module _ {X : Type 0} where
   pub Holds : List X → X → Type 0
@@ -66,7 +66,7 @@ module _ {X : Type 0} (Suffices : List X → Type 0)
       needed before inner.0 y inner.2 (subst (λ xs. Suffices (before ++ xs)) e2 h))
       (split_last kept before after x y e)
 
-  goes : (kept ahead left : List X) → Suffices (kept ++ ahead) → AllNeeded kept ahead → IsLeft Suffices kept ahead left → IsLeast Suffices left
+  goes : (kept ahead left : List X) → Suffices (kept ++ ahead) → AllNeeded kept ahead → IsLeft Suffices kept ahead left → IsLeastList Suffices left
   unfolding AllNeeded
   goes kept [] left s needed e =
       let all : Suffices kept = subst Suffices (append-nil kept) s in
@@ -80,6 +80,6 @@ module _ {X : Type 0} (Suffices : List X → Type 0)
       h
 
   -- so what is left of a whole list is least
-  pub left_is_least : (xs left : List X) → Suffices xs → IsLeft Suffices [] xs left → IsLeast Suffices left
+  pub left_is_least : (xs left : List X) → Suffices xs → IsLeft Suffices [] xs left → IsLeastList Suffices left
   unfolding AllNeeded
   left_is_least xs left s h = goes [] xs left s (λ before after y e no. no_end before y after e) h

@@ -6,17 +6,17 @@ use Rattle.cue_lattice.specs.declared.scalar.Scalar.{Scalar}
 use Rattle.cue_lattice.specs.Path.{Path}
 use Rattle.cue_lattice.specs.Question.{Question, Refusals, may_be, usual, struct, list, level_at_most, length_at_most, length_at_least}
 use Rattle.cue_row.specs.Levels.{level_of}
-use Rattle.cue_row.specs.Row.{IsRow, RowRefuses}
+use Rattle.cue_row.specs.Row.{IsRow, RowRefusesQuestion}
 use Rattle.cue_row.specs.declared.level.Level.{Level}
 use Rattle.cue_row.specs.declared.level.Level.TheVariants.{Optional, Required, Given}
 use Rattle.cue_row.specs.declared.parts.RowParts.{RowParts as Row}
 use Rattle.cue_report.specs.Answers.{IsDemanded, HasNoValue, IsNotAllowed}
-use Rattle.cue_report.specs.Gaps.{IsMissing, MayStand, IsUsual, IsChosen, IsFree, HasNoChoice, IsGap}
+use Rattle.cue_report.specs.Gaps.{IsMissing, MayScalarStand, IsUsual, IsChosenScalar, IsFreeRow, HasNoChoice, IsReportGap}
 use Rattle.cue_report.specs.Listing.{IsConflict}
 use Rattle.cue_report.specs.Inner.GapSearch.{AtPlace, IsOpenAt}
 use Rattle.cue_report.specs.Inner.Search.{lacks_value}
 use Rattle.cue_report.proofs.Rows.{no_value_is}
-use Rattle.cue_why.specs.Finding.{HasNoDefault, IsClear}
+use Rattle.cue_why.specs.Finding.{HasNoDefault, IsWithoutFinding}
 use Rattle.cue_why.specs.Reported.{IsReported}
 use Rattle.cue_why.specs.Inner.Findings.{IsReportedAs, IsGapOf, IsConflictOf, HasGap}
 use Rattle.cue_why.specs.declared.finding.Finding.{Finding}
@@ -29,7 +29,7 @@ module _ (a b : Refusals) (p q : Path) (to : (question : Question) → a p quest
       (λ none. inr ((λ r. none.0 (from list r)), λ n. ⊎_elim (λ x. inl (to (length_at_most n) x)) (λ y. inr (to (length_at_least n) y)) (none.1 n)))
       h
 
-  pub free_as : IsFree a p → IsFree b q
+  pub free_as : IsFreeRow a p → IsFreeRow b q
   free_as h = ((λ scalar r. h.0 scalar (from (may_be scalar) r)), (λ r. h.1 (from struct r)), λ r. h.2 (from list r))
 
   usual_as : (scalar : Scalar) → IsUsual a p scalar → IsUsual b q scalar
@@ -38,13 +38,13 @@ module _ (a b : Refusals) (p q : Path) (to : (question : Question) → a p quest
   usual_back : (scalar : Scalar) → IsUsual b q scalar → IsUsual a p scalar
   usual_back scalar h = (h.0, λ r. h.1 (to (usual scalar) r))
 
-  stand_as : (scalar : Scalar) → MayStand a p scalar → MayStand b q scalar
+  stand_as : (scalar : Scalar) → MayScalarStand a p scalar → MayScalarStand b q scalar
   stand_as scalar h = (h.0, λ r. h.1 (from (may_be scalar) r))
 
-  stand_back : (scalar : Scalar) → MayStand b q scalar → MayStand a p scalar
+  stand_back : (scalar : Scalar) → MayScalarStand b q scalar → MayScalarStand a p scalar
   stand_back scalar h = (h.0, λ r. h.1 (to (may_be scalar) r))
 
-  chosen_back : (scalar : Scalar) → IsChosen b q scalar → IsChosen a p scalar
+  chosen_back : (scalar : Scalar) → IsChosenScalar b q scalar → IsChosenScalar a p scalar
   chosen_back scalar h = ⊎_elim
       (λ one. inl (usual_back scalar one.0, λ other u. one.1 other (usual_as other u)))
       (λ one. inr ((λ other u. one.0 other (usual_as other u)), (stand_back scalar one.1.0, λ other m. one.1.1 other (stand_as other m))))
@@ -80,7 +80,7 @@ either true b h = inl refl
 either false b h = inr h
 
 -- ---- a demanded path
-module _ (view : Refusals) (path : Path) (row : Row) (barred : Bool) (same : (question : Question) → view path question ↔ RowRefuses row question)
+module _ (view : Refusals) (path : Path) (row : Row) (barred : Bool) (same : (question : Question) → view path question ↔ RowRefusesQuestion row question)
     (demanded : IsDemanded view path) (barred_is : IsTrue barred ↔ IsNotAllowed view path) (form : IsRow row) where
   value_is : IsTrue (lacks_value row) ↔ HasNoValue view path
   value_is =
@@ -95,13 +95,13 @@ module _ (view : Refusals) (path : Path) (row : Row) (barred : Bool) (same : (qu
     λ e. let both = level_missing row.level e in ((same (level_at_most 0)).1 both.0, λ r. both.1 ((same (level_at_most 1)).0 r)),
   )
 
-  open_is : IsOpenAt (Some row) → IsFree view path ⊎ HasNoChoice view path
+  open_is : IsOpenAt (Some row) → IsFreeRow view path ⊎ HasNoChoice view path
   open_is h = ⊎_elim
       (λ free. inl (free_as (AtPlace (Some row)) view [] path (λ question r. (same question).1 r) (λ question r. (same question).0 r) free))
       (λ none. inr (no_choice_as (AtPlace (Some row)) view [] path (λ question r. (same question).1 r) (λ question r. (same question).0 r) none))
       h
 
-  open_back : IsFree view path ⊎ HasNoChoice view path → IsOpenAt (Some row)
+  open_back : IsFreeRow view path ⊎ HasNoChoice view path → IsOpenAt (Some row)
   open_back h = ⊎_elim
       (λ free. inl (free_as view (AtPlace (Some row)) path [] (λ question r. (same question).0 r) (λ question r. (same question).1 r) free))
       (λ none. inr (no_choice_as view (AtPlace (Some row)) path [] (λ question r. (same question).0 r) (λ question r. (same question).1 r) none))
@@ -119,16 +119,16 @@ module _ (view : Refusals) (path : Path) (row : Row) (barred : Bool) (same : (qu
       not_allowed : IsTrue finding.not_allowed ↔ IsNotAllowed view path
       not_allowed = (λ t. barred_is.0 (sym is.not_allowed ∙ t), λ h. is.not_allowed ∙ barred_is.1 h)
 
-      not_clear : ¬ IsClear view path
+      not_clear : ¬ IsWithoutFinding view path
       not_clear clear = ⊎_elim (λ t. clear.has_value (no_value.0 t)) (λ t. clear.allowed (not_allowed.0 t)) (either finding.no_value finding.not_allowed is.some)
 
-      levels : (k : ℕ) → k < level_of finding.level ↔ (IsClear view path × view path (level_at_most k))
+      levels : (k : ℕ) → k < level_of finding.level ↔ (IsWithoutFinding view path × view path (level_at_most k))
       levels k = (λ less. let low : k < 0 = subst (λ l. k < level_of l) is.level less in absurd (omega arith), λ h. absurd (not_clear h.0))
 
-      no_default : IsTrue finding.no_default ↔ (IsClear view path × (¬ IsMissing view path) × HasNoDefault view path)
+      no_default : IsTrue finding.no_default ↔ (IsWithoutFinding view path × (¬ IsMissing view path) × HasNoDefault view path)
       no_default = (λ t. absurd (false≢true (sym is.no_default ∙ t)), λ h. absurd (not_clear h.0))
 
-  clear_at : lacks_value row ≡ false → barred ≡ false → IsClear view path
+  clear_at : lacks_value row ≡ false → barred ≡ false → IsWithoutFinding view path
   clear_at v e = record { has_value = λ h. false≢true (sym v ∙ value_is.1 h); allowed = λ h. false≢true (sym e ∙ barred_is.1 h) }
 
   gap_found : (finding : Finding) → lacks_value row ≡ false → barred ≡ false → HasGap row → IsGapOf row finding → IsReportedAs view path finding
@@ -159,7 +159,7 @@ module _ (view : Refusals) (path : Path) (row : Row) (barred : Bool) (same : (qu
     ),
   )
     where
-      clear : IsClear view path
+      clear : IsWithoutFinding view path
       clear = clear_at v e
 
   pub found_is : (finding : Finding) → IsConflictOf row barred finding ⊎ ((lacks_value row ≡ false) × (barred ≡ false) × HasGap row × IsGapOf row finding) → IsReportedAs view path finding
@@ -172,17 +172,17 @@ module _ (view : Refusals) (path : Path) (row : Row) (barred : Bool) (same : (qu
       let at : c.0.path ≡ path = c.1 in
       ⊎_elim (λ t. clear.has_value (subst (HasNoValue view) at (is.no_value.0 t))) (λ t. clear.allowed (subst (IsNotAllowed view) at (is.not_allowed.0 t))) (either c.0.no_value c.0.not_allowed is.cause))
       (λ g.
-      let is : IsGap view g.0 = g.2 in
+      let is : IsReportGap view g.0 = g.2 in
       let at : g.0.path ≡ path = g.1 in
-      ⊎_elim (λ m. against (inl (missing_is.0 (subst (IsMissing view) at m)))) (λ o. against (inr (open_back (⊎_elim (λ f. inl (subst (IsFree view) at f)) (λ n. inr (subst (HasNoChoice view) at n)) o)))) is.cause)
+      ⊎_elim (λ m. against (inl (missing_is.0 (subst (IsMissing view) at m)))) (λ o. against (inr (open_back (⊎_elim (λ f. inl (subst (IsFreeRow view) at f)) (λ n. inr (subst (HasNoChoice view) at n)) o)))) is.cause)
       h
     where
-      clear : IsClear view path
+      clear : IsWithoutFinding view path
       clear = clear_at v e
 
 -- what is not demanded is not reported
 pub not_demanded : (view : Refusals) (path : Path) → ¬ IsDemanded view path → ¬ IsReported view path
 not_demanded view path against h = ⊎_elim
     (λ c. let is : IsConflict view c.0 = c.2 in let at : c.0.path ≡ path = c.1 in against (subst (IsDemanded view) at is.demanded))
-    (λ g. let is : IsGap view g.0 = g.2 in let at : g.0.path ≡ path = g.1 in against (subst (IsDemanded view) at is.demanded))
+    (λ g. let is : IsReportGap view g.0 = g.2 in let at : g.0.path ≡ path = g.1 in against (subst (IsDemanded view) at is.demanded))
     h

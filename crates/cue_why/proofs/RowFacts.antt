@@ -7,7 +7,7 @@ use Rattle.cue_lattice.specs.Path.{Path}
 use Rattle.cue_lattice.specs.Question.{Question, Refusals, may_be, usual, struct, list, level_at_most, length_at_most, length_at_least}
 use Rattle.cue_row.specs.Kinds.{IsEmptySet}
 use Rattle.cue_row.specs.Lengths.{RefusesLength}
-use Rattle.cue_row.specs.Row.{IsRow, RowRefuses}
+use Rattle.cue_row.specs.Row.{IsRow, RowRefusesQuestion}
 use Rattle.cue_row.specs.declared.parts.RowParts.{RowParts as Row}
 use Rattle.cue_report.specs.Answers.{IsDemanded, IsNotAllowed}
 use Rattle.cue_report.specs.Inner.Search.{is_above, is_empty_set}
@@ -54,7 +54,7 @@ pub default_is : (row : Row) → IsRow row → (is_empty_set row.usual ≡ true)
 default_is row form = (λ e. empty_refused row.usual e, λ h. refused_empty row.usual form.usual h)
 
 -- what has to be refused at the end of a path, by the row there
-pub met_at : (finding : Finding) (own : Refusals) (path : Path) (row : Row) → ((question : Question) → own path question ↔ RowRefuses row question) → IsDemanded own path
+pub met_at : (finding : Finding) (own : Refusals) (path : Path) (row : Row) → ((question : Question) → own path question ↔ RowRefusesQuestion row question) → IsDemanded own path
     → (IsTrue finding.not_allowed → IsNotAllowed own path) → IsMetAt finding row ↔ Meets finding own path
 met_at finding own path row same demanded allowed = (
   λ h. record {
@@ -80,10 +80,10 @@ levels_high f r h less = let k : r < r = h r less in omega arith
 
 -- the last of rows along a path, by what the code cuts off
 pub end_row : (path : Path) (rows front : List Row) (row : Row) → rows ≡ front ++ row ∷ [] → length rows ≡ suc (length path)
-    → (question : Question) → TrailRefuses RowRefuses path rows path question ↔ RowRefuses row question
+    → (question : Question) → TrailRefuses RowRefusesQuestion path rows path question ↔ RowRefusesQuestion row question
 end_row path rows front row e long question =
-    let P : List Row → Type 0 = λ rs. TrailRefuses RowRefuses path rs path question ↔ RowRefuses row question in
-    subst P (sym e) (end_is RowRefuses path front row question (snoc_long front long_front))
+    let P : List Row → Type 0 = λ rs. TrailRefuses RowRefusesQuestion path rs path question ↔ RowRefusesQuestion row question in
+    subst P (sym e) (end_is RowRefusesQuestion path front row question (snoc_long front long_front))
   where
     long_front : length (front ++ row ∷ []) ≡ suc (length path)
     long_front = ap length (sym e) ∙ long

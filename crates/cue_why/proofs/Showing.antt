@@ -14,9 +14,9 @@ use Rattle.cue_table.specs.Refuses.{RowRefuses, TableRefuses}
 use Rattle.cue_table.specs.Tree.{Tree, branch_at, row_of, row_at, step_into}
 use Rattle.cue_why.specs.Inner.Parts.{AreParts, IsBelow, IsIn}
 use Rattle.cue_why.specs.Inner.Saying.{RefusesAny, pair_of}
-use Rattle.cue_why.specs.Shown.{PartRefuses, HasPart, AreShown}
+use Rattle.cue_why.specs.Shown.{ShownPartRefuses, PathHasPart, AreShown}
 use Rattle.cue_why.specs.declared.part.WrittenPart.{WrittenPart}
-use Rattle.cue_why.specs.declared.source.Source.{Source}
+use Rattle.cue_why.specs.declared.source.LayerSource.{LayerSource}
 use Rattle.cue_why.proofs.Demands.{map_length}
 use Rattle.cue_why.proofs.Parts.{parts_step}
 use Rattle.cue_why.proofs.Tracing.{cut_at}
@@ -35,24 +35,24 @@ row_further tree (step ∷ path) below = by (step_into tree step) (λ next. row_
     by (Some next) rec = rec next
 
 refuses_further : (tree branch : Tree Row) (path below : Path) (question : Question) → branch_at tree path ≡ Some branch
-    → TableRefuses rows.RowRefuses tree (path ++ below) question ↔ TableRefuses rows.RowRefuses branch below question
+    → TableRefuses rows.RowRefusesQuestion tree (path ++ below) question ↔ TableRefuses rows.RowRefusesQuestion branch below question
 refuses_further tree branch path below question e =
     let same : row_at tree (path ++ below) ≡ row_at branch below = row_further tree path below ∙ ap (λ found. FoundRow found below) e in
-    let P : Option Row → Type 0 = λ o. RowRefuses rows.RowRefuses o question in
+    let P : Option Row → Type 0 = λ o. RowRefuses rows.RowRefusesQuestion o question in
     (subst P same, subst P (sym same))
 
-nothing_further : (tree : Tree Row) (path below : Path) (question : Question) → branch_at tree path ≡ None → ¬ TableRefuses rows.RowRefuses tree (path ++ below) question
+nothing_further : (tree : Tree Row) (path below : Path) (question : Question) → branch_at tree path ≡ None → ¬ TableRefuses rows.RowRefusesQuestion tree (path ++ below) question
 nothing_further tree path below question e h =
     let none : row_at tree (path ++ below) ≡ None = row_further tree path below ∙ ap (λ found. FoundRow found below) e in
-    let P : Option Row → Type 0 = λ o. RowRefuses rows.RowRefuses o question in
+    let P : Option Row → Type 0 = λ o. RowRefuses rows.RowRefusesQuestion o question in
     subst P none h
 
 -- a source has a part just where it has a branch that refuses something
-part_of_branch : (source : Source) (part : WrittenPart) → branch_at source.table.now part.written ≡ Some part.branch → RefusesAny source.kind part
-    → ¬ ((below : Path) (question : Question) → ¬ PartRefuses source.kind source.table.now part.written below question)
+part_of_branch : (source : LayerSource) (part : WrittenPart) → branch_at source.table.now part.written ≡ Some part.branch → RefusesAny source.kind part
+    → ¬ ((below : Path) (question : Question) → ¬ ShownPartRefuses source.kind source.table.now part.written below question)
 part_of_branch source part e any non = any (λ below question h. non below question ((refuses_further source.table.now part.branch part.written below question e).1 h.0, h.1))
 
-branch_of_part : (source : Source) (written : Path) → ¬ ((below : Path) (question : Question) → ¬ PartRefuses source.kind source.table.now written below question)
+branch_of_part : (source : LayerSource) (written : Path) → ¬ ((below : Path) (question : Question) → ¬ ShownPartRefuses source.kind source.table.now written below question)
     → (branch : Tree Row) × (branch_at source.table.now written ≡ Some branch) × RefusesAny source.kind (record { written = written; branch = branch })
 branch_of_part source written some = by (branch_at source.table.now written) refl
   where
@@ -63,18 +63,18 @@ branch_of_part source written some = by (branch_at source.table.now written) ref
 
 -- ---- the parts of one place
 -- the list has the parts of a place that refuse something
-pub record AreSaying (source : Source) (place : Path) (parts : List WrittenPart) : Type 0 where
-  pub paths : (written : Path) → HasPart source.kind source.table.now place written ↔ OneOf (λ part. part.written ≡ written) parts
+pub record AreSaying (source : LayerSource) (place : Path) (parts : List WrittenPart) : Type 0 where
+  pub paths : (written : Path) → PathHasPart source.kind source.table.now place written ↔ OneOf (λ part. part.written ≡ written) parts
   pub branches : (part : WrittenPart) → IsIn part parts → branch_at source.table.now part.written ≡ Some part.branch
 
-pub saying : (source : Source) (place : Path) (parts kept : List WrittenPart) → AreParts source.kind source.table.now place parts
+pub saying : (source : LayerSource) (place : Path) (parts kept : List WrittenPart) → AreParts source.kind source.table.now place parts
     → ((one : WrittenPart) → IsIn one kept ↔ OneOf (λ part. (part ≡ one) × RefusesAny source.kind part) parts) → AreSaying source place kept
 saying source place parts kept are is = record {
   paths = λ written. (into written, out written);
   branches = λ part h. let one = pick (λ other. (other ≡ part) × RefusesAny source.kind other) parts ((is part).0 h) in subst (λ p. branch_at source.table.now p.written ≡ Some p.branch) one.2.0 ((are one.0).0 one.1).1;
 }
   where
-    into : (written : Path) → HasPart source.kind source.table.now place written → OneOf (λ part. part.written ≡ written) kept
+    into : (written : Path) → PathHasPart source.kind source.table.now place written → OneOf (λ part. part.written ≡ written) kept
     into written h =
         let there = branch_of_part source written h.1 in
         let part : WrittenPart = record { written = written; branch = there.0 } in
@@ -82,25 +82,25 @@ saying source place parts kept are is = record {
         let in_kept = (is part).1 (put (λ other. (other ≡ part) × RefusesAny source.kind other) parts part in_parts (refl, there.2)) in
         put (λ other. other.written ≡ written) kept part in_kept refl
 
-    out : (written : Path) → OneOf (λ part. part.written ≡ written) kept → HasPart source.kind source.table.now place written
+    out : (written : Path) → OneOf (λ part. part.written ≡ written) kept → PathHasPart source.kind source.table.now place written
     out written h =
         let one = pick (λ other. other.written ≡ written) kept h in
         let kept_one = pick (λ other. (other ≡ one.0) × RefusesAny source.kind other) parts ((is one.0).0 one.1) in
         let at = (are kept_one.0).0 kept_one.1 in
         let same : kept_one.0.written ≡ written = ap (λ (p : WrittenPart). p.written) kept_one.2.0 ∙ one.2 in
         let some = part_of_branch source kept_one.0 at.1 kept_one.2.1 in
-        subst (HasPart source.kind source.table.now place) same (at.0, some)
+        subst (PathHasPart source.kind source.table.now place) same (at.0, some)
 
-none_saying : (source : Source) (place : Path) → AreSaying source place [] → (written : Path) → ¬ HasPart source.kind source.table.now place written
+none_saying : (source : LayerSource) (place : Path) → AreSaying source place [] → (written : Path) → ¬ PathHasPart source.kind source.table.now place written
 none_saying source place are written h = (are.paths written).0 h
 
 -- ---- the longest beginning
-pub record AreShownParts (source : Source) (path : Path) (parts : List WrittenPart) : Type 0 where
+pub record AreShownParts (source : LayerSource) (path : Path) (parts : List WrittenPart) : Type 0 where
   pub place : Path
   pub after : Path
   pub whole : path ≡ place ++ after
   pub saying_is : AreSaying source place parts
-  pub longest : (more rest : Path) → after ≡ more ++ rest → more ≢ [] → (written : Path) → ¬ HasPart source.kind source.table.now (place ++ more) written
+  pub longest : (more rest : Path) → after ≡ more ++ rest → more ≢ [] → (written : Path) → ¬ PathHasPart source.kind source.table.now (place ++ more) written
 
 one_map : {X Y : Type 0} (f : X → Y) (P : Y → Type 0) (xs : List X) → OneOf P (map f xs) ↔ OneOf (λ x. P (f x)) xs
 one_map f P [] = (λ h. h, λ h. h)
@@ -108,7 +108,7 @@ one_map f P (x ∷ xs) =
     let more = one_map f P xs in
     (λ h. ⊎_elim (λ p. inl p) (λ r. inr (more.0 r)) h, λ h. ⊎_elim (λ p. inl p) (λ r. inr (more.1 r)) h)
 
-pub shown_pairs : (source : Source) (path : Path) (parts : List WrittenPart) → AreShownParts source path parts → AreShown source.kind source.table.now path (map pair_of parts)
+pub shown_pairs : (source : LayerSource) (path : Path) (parts : List WrittenPart) → AreShownParts source path parts → AreShown source.kind source.table.now path (map pair_of parts)
 shown_pairs source path parts are = record {
   place = are.place;
   after = are.after;
@@ -127,7 +127,7 @@ nil_front : (more rest : Path) → [] ≡ more ++ rest → more ≡ []
 nil_front [] rest e = refl
 nil_front (x ∷ more) rest e = cc
 
-pub shown_here : (source : Source) (place : Path) (parts : List WrittenPart) → AreSaying source place parts → AreShownParts source place parts
+pub shown_here : (source : LayerSource) (place : Path) (parts : List WrittenPart) → AreSaying source place parts → AreShownParts source place parts
 shown_here source place parts are = record {
   place = place;
   after = [];
@@ -154,7 +154,7 @@ front_of (y ∷ after) step (x ∷ more) rest e =
     (λ f. inr (ap (λ p. x ∷ p) f ∙ ap (λ z. z ∷ after ++ step ∷ []) (sym same)))
     (front_of after step more rest tail)
 
-pub shown_further : (source : Source) (path : Path) (step : Step) (parts : List WrittenPart) → AreShownParts source path parts → AreSaying source (path ++ step ∷ []) []
+pub shown_further : (source : LayerSource) (path : Path) (step : Step) (parts : List WrittenPart) → AreShownParts source path parts → AreSaying source (path ++ step ∷ []) []
     → AreShownParts source (path ++ step ∷ []) parts
 shown_further source path step parts are none = record {
   place = are.place;
@@ -164,24 +164,24 @@ shown_further source path step parts are none = record {
   longest = longest;
 }
   where
-    longest : (more rest : Path) → are.after ++ step ∷ [] ≡ more ++ rest → more ≢ [] → (written : Path) → ¬ HasPart source.kind source.table.now (are.place ++ more) written
+    longest : (more rest : Path) → are.after ++ step ∷ [] ≡ more ++ rest → more ≢ [] → (written : Path) → ¬ PathHasPart source.kind source.table.now (are.place ++ more) written
     longest more rest e some written h = ⊎_elim
         (λ f. are.longest more f.0 f.1 some written h)
         (λ f.
         let all : are.place ++ more ≡ path ++ step ∷ [] = ap (λ m. are.place ++ m) f ∙ sym (append_assoc are.place are.after (step ∷ [])) ∙ ap (λ p. p ++ step ∷ []) (sym are.whole) in
-        none_saying source (path ++ step ∷ []) none written (subst (λ p. HasPart source.kind source.table.now p written) all h))
+        none_saying source (path ++ step ∷ []) none written (subst (λ p. PathHasPart source.kind source.table.now p written) all h))
         (front_of are.after step more rest e)
 
 -- ---- as the code goes along the path
-pub record AreAt (source : Source) (p : List Code) (i : ℕ) (parts shown : List WrittenPart) : Type 0 where
+pub record AreAt (source : LayerSource) (p : List Code) (i : ℕ) (parts shown : List WrittenPart) : Type 0 where
   pub here : AreParts source.kind source.table.now (take i (map step_of p)) parts
   pub shown_is : AreShownParts source (take i (map step_of p)) shown
 
-pub at_start : (source : Source) (p : List Code) (parts others shown : List WrittenPart) → AreParts source.kind source.table.now [] parts → AreParts source.kind source.table.now [] others
+pub at_start : (source : LayerSource) (p : List Code) (parts others shown : List WrittenPart) → AreParts source.kind source.table.now [] parts → AreParts source.kind source.table.now [] others
     → ((one : WrittenPart) → IsIn one shown ↔ OneOf (λ part. (part ≡ one) × RefusesAny source.kind part) others) → AreAt source p 0 parts shown
 at_start source p parts others shown are also is = record { here = are; shown_is = shown_here source [] shown (saying source [] others shown also is) }
 
-module _ (source : Source) (p : List Code) (i : ℕ) (s : Code) (parts seen found next shown new seen_again again : List WrittenPart) (less : i < length p) (e : s ≡ get_or p i s) (at : AreAt source p i parts shown)
+module _ (source : LayerSource) (p : List Code) (i : ℕ) (s : Code) (parts seen found next shown new seen_again again : List WrittenPart) (less : i < length p) (e : s ≡ get_or p i s) (at : AreAt source p i parts shown)
     (same : seen ≡ parts) (below : (one : WrittenPart) → IsIn one found ↔ OneOf (λ part. IsBelow source.kind (step_of s) part one) seen)
     (is : (one : WrittenPart) → IsIn one next ↔ OneOf (λ part. (part ≡ one) × RefusesAny source.kind part) found)
     (none : next ≡ [] → new ≡ shown) (some : next ≢ [] → new ≡ next)
@@ -215,7 +215,7 @@ module _ (source : Source) (p : List Code) (i : ℕ) (s : Code) (parts seen foun
         shown_is = subst (λ place. AreShownParts source place new) (sym cut.0) new_shown;
       }
 
-pub at_end : (source : Source) (p : List Code) (i : ℕ) (parts shown : List WrittenPart) → length p ≤ i → AreAt source p i parts shown → AreShown source.kind source.table.now (map step_of p) (map pair_of shown)
+pub at_end : (source : LayerSource) (p : List Code) (i : ℕ) (parts shown : List WrittenPart) → length p ≤ i → AreAt source p i parts shown → AreShown source.kind source.table.now (map step_of p) (map pair_of shown)
 at_end source p i parts shown done at =
     let path = map step_of p in
     let long : length path ≤ i = let e = map_length step_of p in omega arith in

@@ -6,25 +6,25 @@ use Rattle.cue_lattice.specs.OneOf.{OneOf}
 use Rattle.cue_lattice.specs.Path.{Path}
 use Rattle.cue_lattice.specs.Question.{Question, Refusals, level_at_most, usual}
 use Rattle.cue_report.specs.Answers.{IsDemanded, HasNoValue, IsNotAllowed}
-use Rattle.cue_report.specs.Gaps.{IsMissing, IsFree, HasNoChoice, IsGap}
+use Rattle.cue_report.specs.Gaps.{IsMissing, IsFreeRow, HasNoChoice, IsReportGap}
 use Rattle.cue_report.specs.Listing.{IsConflict}
 use Rattle.cue_report.specs.declared.conflict.Conflict.{Conflict}
 use Rattle.cue_report.specs.declared.gap.Gap.{Gap}
-use Rattle.cue_row.specs.Row.{RowRefuses}
+use Rattle.cue_row.specs.Row.{RowRefusesQuestion}
 use Rattle.cue_row.specs.declared.parts.RowParts.{RowParts as Row}
 use Rattle.cue_policies.specs.Tables.{table_part}
-use Rattle.cue_policies.specs.View.{PartRefuses, Declares, ViewRefuses}
+use Rattle.cue_policies.specs.View.{PartRefuses, DeclaresAt, ViewRefuses}
 use Rattle.cue_policies.specs.declared.kind.LayerKind.{LayerKind}
 use Rattle.cue_table.specs.Tree.{Tree}
-use Rattle.cue_why.specs.Finding.{IsClear}
-use Rattle.cue_why.specs.Least.{IsLeft, IsLeast}
-use Rattle.cue_why.specs.Reported.{IsReported, IsOfLabel}
+use Rattle.cue_why.specs.Finding.{IsWithoutFinding}
+use Rattle.cue_why.specs.Least.{IsLeft, IsLeastList}
+use Rattle.cue_why.specs.Reported.{IsReported, IsLabelReported}
 use Rattle.cue_why.specs.Sources.{SourcesRefuse, SourcesMake}
 use Rattle.cue_why.specs.Inner.Findings.{IsFinding, IsReportedAs}
 use Rattle.cue_why.specs.Inner.Stacks.{LineRefuses, IsTrailOf, Suffice, source_part}
 use Rattle.cue_why.specs.Inner.Trails.{TrailRefuses}
 use Rattle.cue_why.specs.declared.finding.Finding.{Finding}
-use Rattle.cue_why.specs.declared.source.Source.{Source}
+use Rattle.cue_why.specs.declared.source.LayerSource.{LayerSource}
 use Rattle.cue_why.proofs.Declaring.{view_narrow, line_narrow, makes_view, view_makes, makes_with_more}
 use Rattle.cue_why.proofs.Findings.{makes_is}
 use Rattle.cue_why.proofs.Makes.{IsAsNarrowAlong, demanded_more, not_allowed_more, makes_more, makes_own}
@@ -58,10 +58,10 @@ module _ (a b : Refusals) (path : Path) (ab : IsAsNarrowAlong a b path) (ba : Is
   missing_from : IsMissing b path → IsMissing a path
   missing_from m = (from (level_at_most 0) m.0, λ r. m.1 (to (level_at_most 1) r))
 
-  clear_to : IsClear a path → IsClear b path
+  clear_to : IsWithoutFinding a path → IsWithoutFinding b path
   clear_to clear = record { has_value = λ h. clear.has_value (value_from h); allowed = λ h. clear.allowed (barred_from h) }
 
-  clear_from : IsClear b path → IsClear a path
+  clear_from : IsWithoutFinding b path → IsWithoutFinding a path
   clear_from clear = record { has_value = λ h. clear.has_value (value_to h); allowed = λ h. clear.allowed (barred_to h) }
 
   pub finding_as : (finding : Finding) → IsFinding a path finding → IsFinding b path finding
@@ -105,7 +105,7 @@ module _ (a b : Refusals) (path : Path) (ab : IsAsNarrowAlong a b path) (ba : Is
             },
           )
 
-      gap : (g : Gap) → g.path ≡ path → IsGap a g → (gap : Gap) × (gap.path ≡ path) × IsGap b gap
+      gap : (g : Gap) → g.path ≡ path → IsReportGap a g → (gap : Gap) × (gap.path ≡ path) × IsReportGap b gap
       gap g e is =
           let asked : IsDemanded a path = subst (IsDemanded a) e is.demanded in
           let back = sym e in (
@@ -122,7 +122,7 @@ module _ (a b : Refusals) (path : Path) (ab : IsAsNarrowAlong a b path) (ba : Is
               cause = ⊎_elim
                   (λ m. inl (subst (IsMissing b) back (missing_to (subst (IsMissing a) e m))))
                   (λ o. inr (⊎_elim
-                  (λ f. inl (subst (IsFree b) back (free_as a b path path to from (subst (IsFree a) e f))))
+                  (λ f. inl (subst (IsFreeRow b) back (free_as a b path path to from (subst (IsFreeRow a) e f))))
                   (λ n. inr (subst (HasNoChoice b) back (no_choice_as a b path path to from (subst (HasNoChoice a) e n)))) o))
                   is.cause;
             },
@@ -135,27 +135,27 @@ one_map f P (x ∷ xs) =
     let more = one_map f P xs in
     (λ h. ⊎_elim (λ p. inl p) (λ r. inr (more.0 r)) h, λ h. ⊎_elim (λ p. inl p) (λ r. inr (more.1 r)) h)
 
-view_is : (sources : List Source) (path : Path) (question : Question) → SourcesRefuse sources path question ↔ ViewRefuses source_part sources path question
+view_is : (sources : List LayerSource) (path : Path) (question : Question) → SourcesRefuse sources path question ↔ ViewRefuses source_part sources path question
 view_is sources path question =
-    let pair : Source → LayerKind × Tree Row = λ s. (s.kind, s.table.now) in
+    let pair : LayerSource → LayerKind × Tree Row = λ s. (s.kind, s.table.now) in
     let here = one_map pair (λ part. PartRefuses (table_part part) path question) sources in (
-      λ h. ((λ place l further e. (one_map pair (λ part. Declares (table_part part) place l) sources).0 (h.0 place l further e)), here.0 h.1),
-      λ h. ((λ place l further e. (one_map pair (λ part. Declares (table_part part) place l) sources).1 (h.0 place l further e)), here.1 h.1),
+      λ h. ((λ place l further e. (one_map pair (λ part. DeclaresAt (table_part part) place l) sources).0 (h.0 place l further e)), here.0 h.1),
+      λ h. ((λ place l further e. (one_map pair (λ part. DeclaresAt (table_part part) place l) sources).1 (h.0 place l further e)), here.1 h.1),
     )
 
-sources_narrow : (sources : List Source) (path : Path) → IsAsNarrowAlong (SourcesRefuse sources) (ViewRefuses source_part sources) path
+sources_narrow : (sources : List LayerSource) (path : Path) → IsAsNarrowAlong (SourcesRefuse sources) (ViewRefuses source_part sources) path
 sources_narrow sources path = record { at = λ place after e question h. (view_is sources place question).1 h }
 
-narrow_sources : (sources : List Source) (path : Path) → IsAsNarrowAlong (ViewRefuses source_part sources) (SourcesRefuse sources) path
+narrow_sources : (sources : List LayerSource) (path : Path) → IsAsNarrowAlong (ViewRefuses source_part sources) (SourcesRefuse sources) path
 narrow_sources sources path = record { at = λ place after e question h. (view_is sources place question).0 h }
 
 narrow_through : (a b c : Refusals) (path : Path) → IsAsNarrowAlong a b path → IsAsNarrowAlong b c path → IsAsNarrowAlong a c path
 narrow_through a b c path ab bc = record { at = λ place after e question h. ab.at place after e question (bc.at place after e question h) }
 
 -- ---- the trail of all sources
-module _ (path : Path) (sources : List Source) (rows : List Row) (trail : IsTrailOf path sources rows) where
+module _ (path : Path) (sources : List LayerSource) (rows : List Row) (trail : IsTrailOf path sources rows) where
   abbrev Rows : Refusals
-  Rows = TrailRefuses RowRefuses path rows
+  Rows = TrailRefuses RowRefusesQuestion path rows
 
   line_rows : IsAsNarrowAlong (LineRefuses sources) Rows path
   line_rows = record { at = λ place after e question h. (trail.same place after e question).0 h }
@@ -181,7 +181,7 @@ module _ (path : Path) (sources : List Source) (rows : List Row) (trail : IsTrai
   reported_asked : (view : Refusals) → IsReported view path → IsDemanded view path
   reported_asked view h = ⊎_elim
       (λ c. let is : IsConflict view c.0 = c.2 in let at : c.0.path ≡ path = c.1 in subst (IsDemanded view) at is.demanded)
-      (λ g. let is : IsGap view g.0 = g.2 in let at : g.0.path ≡ path = g.1 in subst (IsDemanded view) at is.demanded)
+      (λ g. let is : IsReportGap view g.0 = g.2 in let at : g.0.path ≡ path = g.1 in subst (IsDemanded view) at is.demanded)
       h
 
   pub view_reported : IsReported Rows path → IsReported (SourcesRefuse sources) path
@@ -193,23 +193,23 @@ module _ (path : Path) (sources : List Source) (rows : List Row) (trail : IsTrai
       reported_as (SourcesRefuse sources) Rows path (view_rows asked) rows_view h
 
 -- ---- what suffices for the finding
-suffice_is : (all some : List Source) (path : Path) (finding : Finding) → IsFinding (SourcesRefuse all) path finding → Suffice finding path some ↔ SourcesMake all path some
+suffice_is : (all some : List LayerSource) (path : Path) (finding : Finding) → IsFinding (SourcesRefuse all) path finding → Suffice finding path some ↔ SourcesMake all path some
 suffice_is all some path finding is =
     let line = makes_is (SourcesRefuse all) (LineRefuses some) path finding is in (
       λ h. makes_more (SourcesRefuse all) (SourcesRefuse some) (ViewRefuses source_part some) path (sources_narrow some path) (makes_view source_part some (SourcesRefuse all) path (line.0 h)),
       λ m. line.1 (view_makes source_part some (SourcesRefuse all) path (makes_more (SourcesRefuse all) (ViewRefuses source_part some) (SourcesRefuse some) path (narrow_sources some path) m)),
     )
 
-more_make : (all : List Source) (path : Path) (some others : List Source) → ((x : Source) → OneOf (λ y. y ≡ x) some → OneOf (λ y. y ≡ x) others) → SourcesMake all path some → SourcesMake all path others
+more_make : (all : List LayerSource) (path : Path) (some others : List LayerSource) → ((x : LayerSource) → OneOf (λ y. y ≡ x) some → OneOf (λ y. y ≡ x) others) → SourcesMake all path some → SourcesMake all path others
 more_make all path some others among m =
     let view = makes_more (SourcesRefuse all) (ViewRefuses source_part some) (SourcesRefuse some) path (narrow_sources some path) m in
     makes_more (SourcesRefuse all) (SourcesRefuse others) (ViewRefuses source_part others) path (sources_narrow others path)
     (makes_with_more source_part (SourcesRefuse all) path some others among view)
 
-pub left_make : (all left : List Source) (path : Path) (finding : Finding) → IsFinding (SourcesRefuse all) path finding → IsLeft (Suffice finding path) [] all left → IsLeft (SourcesMake all path) [] all left
+pub left_make : (all left : List LayerSource) (path : Path) (finding : Finding) → IsFinding (SourcesRefuse all) path finding → IsLeft (Suffice finding path) [] all left → IsLeft (SourcesMake all path) [] all left
 left_make all left path finding is h = left_as (Suffice finding path) (SourcesMake all path) (λ some. suffice_is all some path finding is) [] all left h
 
-pub least_make : (all left : List Source) (path : Path) (finding : Finding) → IsFinding (SourcesRefuse all) path finding → IsLeft (SourcesMake all path) [] all left → IsLeast (SourcesMake all path) left
+pub least_make : (all left : List LayerSource) (path : Path) (finding : Finding) → IsFinding (SourcesRefuse all) path finding → IsLeft (SourcesMake all path) [] all left → IsLeastList (SourcesMake all path) left
 least_make all left path finding is h = left_is_least (SourcesMake all path) (more_make all path) all left (makes_own (SourcesRefuse all) path is.demanded) h
 
 -- ---- whether the label alone is reported
@@ -218,7 +218,7 @@ not_true true non = absurd (non refl)
 not_true false non = refl
 
 pub label_is : (view : Refusals) (path : Path) (finding : Finding) (found : Bool) → IsFinding view path finding → IsReported view path → IsTrue found ↔ ((finding.no_value ≡ false) × IsTrue finding.not_allowed)
-    → IsTrue found ↔ IsOfLabel view path
+    → IsTrue found ↔ IsLabelReported view path
 label_is view path finding found is reported e = (
   λ t. let both = e.0 t in (reported, is.not_allowed.0 both.1, λ h. false≢true (sym both.0 ∙ is.no_value.1 h)),
   λ h. e.1 (not_true finding.no_value (λ t. h.2 (is.no_value.0 t)), is.not_allowed.1 h.1),

@@ -20,7 +20,7 @@ HasNoDefault refuses path =
     (scalar : Scalar) → IsScalar scalar → refuses path (usual scalar)
 
 -- no conflict is at the path
-pub record IsClear (refuses : Refusals) (path : Path) : Type 0 where
+pub record IsWithoutFinding (refuses : Refusals) (path : Path) : Type 0 where
   pub has_value : ¬ HasNoValue refuses path
   pub allowed : ¬ IsNotAllowed refuses path
 
@@ -32,7 +32,7 @@ pub record Makes (view own : Refusals) (path : Path) : Type 0 where
   pub demanded : IsDemanded own path
   pub no_value : HasNoValue view path → RefusesValues own path
   pub not_allowed : IsNotAllowed view path → IsNotAllowed own path
-  pub levels : IsClear view path → (k : ℕ) → view path (level_at_most k)
+  pub levels : IsWithoutFinding view path → (k : ℕ) → view path (level_at_most k)
       → own path (level_at_most k)
-  pub no_default : IsClear view path → ¬ IsMissing view path → HasNoDefault view path
+  pub no_default : IsWithoutFinding view path → ¬ IsMissing view path → HasNoDefault view path
       → HasNoDefault own path

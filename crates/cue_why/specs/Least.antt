@@ -10,7 +10,7 @@ IsLeft Suffices kept (x ∷ ahead) left =
     ⊎ ((¬ Suffices (kept ++ ahead)) × IsLeft Suffices (kept ++ x ∷ []) ahead left)
 
 -- a least list: it suffices, and without one of its elements it does not
-pub record IsLeast {X : Type 0} (Suffices : List X → Type 0) (xs : List X) : Type 0 where
+pub record IsLeastList {X : Type 0} (Suffices : List X → Type 0) (xs : List X) : Type 0 where
   pub suffices : Suffices xs
   pub least : (before after : List X) (x : X) → xs ≡ before ++ x ∷ after
       → ¬ Suffices (before ++ after)

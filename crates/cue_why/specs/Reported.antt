@@ -3,7 +3,7 @@ use Rattle.std.specs.Prelude.{◌≡◌, ◌⊎◌}
 use Rattle.cue_lattice.specs.Path.{Path}
 use Rattle.cue_lattice.specs.Question.{Refusals}
 use Rattle.cue_report.specs.Answers.{HasNoValue, IsNotAllowed}
-use Rattle.cue_report.specs.Gaps.{IsGap}
+use Rattle.cue_report.specs.Gaps.{IsReportGap}
 use Rattle.cue_report.specs.Listing.{IsConflict}
 use Rattle.cue_report.specs.declared.conflict.Conflict.{Conflict}
 use Rattle.cue_report.specs.declared.gap.Gap.{Gap}
@@ -12,9 +12,9 @@ use Rattle.cue_report.specs.declared.gap.Gap.{Gap}
 abbrev pub IsReported : Refusals → Path → Type 0
 IsReported view path =
     ((conflict : Conflict) × (conflict.path ≡ path) × IsConflict view conflict)
-    ⊎ ((gap : Gap) × (gap.path ≡ path) × IsGap view gap)
+    ⊎ ((gap : Gap) × (gap.path ≡ path) × IsReportGap view gap)
 
 -- it has a conflict there for the label alone
-abbrev pub IsOfLabel : Refusals → Path → Type 0
-IsOfLabel view path =
+abbrev pub IsLabelReported : Refusals → Path → Type 0
+IsLabelReported view path =
     IsReported view path × IsNotAllowed view path × ¬ HasNoValue view path

@@ -9,7 +9,7 @@ ghost use Rattle.cue_row.specs.Steps.{step_of};
 ghost use Rattle.cue_why.specs.Inner.Parts.{IsBelow, IsOwnBelow};
 ghost use Rattle.cue_why.specs.declared.part.WrittenPart.{WrittenPart as Part};
 
-use crate::part::{WrittenPart, further};
+use crate::part::{WrittenPart, step_further};
 use cue_lattice::{Memory, Text};
 use cue_policies::{LayerKind, fits, is_pattern};
 use cue_row::Step;
@@ -66,7 +66,7 @@ fn add_own<'a>(
     match part.branch.find(step) {
         None => Ok(()),
         Some(branch) => {
-            let written = further(alloc, &part.written, step)?;
+            let written = step_further(alloc, &part.written, step)?;
             found.push(WrittenPart { written, branch })?;
             Ok(())
         }

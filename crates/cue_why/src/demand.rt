@@ -2,7 +2,7 @@
 ghost use Rattle.std.specs.Prelude.{◌≡◌, ◌↔◌, suc, length, map, IsTrue};
 ghost use Rattle.cue_lattice.specs.Question.{level_at_most};
 ghost use Rattle.cue_report.specs.Answers.{IsDemanded, IsNotAllowed};
-ghost use Rattle.cue_row.specs.Row.{RowRefuses};
+ghost use Rattle.cue_row.specs.Row.{RowRefusesQuestion};
 ghost use Rattle.cue_row.specs.Steps.{step_of};
 ghost use Rattle.cue_why.specs.Inner.Trails.{IsDemandedBy, IsRefusedBy, TrailRefuses};
 
@@ -12,7 +12,7 @@ use cue_row::{Level, Row, Step};
 pub(crate) fn is_demanded(rows: &[Row], path: &[Step]) -> bool
     requires { length rows.now ≡ suc (length path.now) }
     ensures { let steps = map step_of path.now in
-        IsTrue result ↔ IsDemanded (TrailRefuses RowRefuses steps rows.now) steps }
+        IsTrue result ↔ IsDemanded (TrailRefuses RowRefusesQuestion steps rows.now) steps }
 {
     match path {
         [] => true,
@@ -27,7 +27,7 @@ pub(crate) fn is_demanded(rows: &[Row], path: &[Step]) -> bool
 
 /// Whether a step is demanded, by the row above it and the rows from behind it on.
 fn is_step_demanded(above: &Row, step: &Step, below: &[Row]) -> bool
-    ensures { IsTrue result ↔ IsDemandedBy RowRefuses above.now (step_of step.now) below.now }
+    ensures { IsTrue result ↔ IsDemandedBy RowRefusesQuestion above.now (step_of step.now) below.now }
 {
     match step {
         Step::Label(_) => match below {
@@ -40,7 +40,7 @@ fn is_step_demanded(above: &Row, step: &Step, below: &[Row]) -> bool
 
 /// Whether the field of a row is required or there.
 fn is_asked(row: &Row) -> bool
-    ensures { IsTrue result ↔ RowRefuses row.now (level_at_most 0) }
+    ensures { IsTrue result ↔ RowRefusesQuestion row.now (level_at_most 0) }
 {
     match row.level() {
         Level::Optional => false,
@@ -52,7 +52,7 @@ fn is_asked(row: &Row) -> bool
 pub(crate) fn is_not_allowed(rows: &[Row], path: &[Step]) -> bool
     requires { length rows.now ≡ suc (length path.now) }
     ensures { let steps = map step_of path.now in
-        IsTrue result ↔ IsNotAllowed (TrailRefuses RowRefuses steps rows.now) steps }
+        IsTrue result ↔ IsNotAllowed (TrailRefuses RowRefusesQuestion steps rows.now) steps }
 {
     match path {
         [] => false,
@@ -71,7 +71,7 @@ pub(crate) fn is_not_allowed(rows: &[Row], path: &[Step]) -> bool
 
 /// Whether a row does not allow the label of a step.
 fn is_refused(above: &Row, step: &Step) -> bool
-    ensures { IsTrue result ↔ IsRefusedBy RowRefuses above.now (step_of step.now) }
+    ensures { IsTrue result ↔ IsRefusedBy RowRefusesQuestion above.now (step_of step.now) }
 {
     match step {
         Step::Label(label) => !above.allows(label.as_str()),

@@ -3,7 +3,7 @@ ghost use Rattle.std.specs.Prelude.{◌≡◌, ◌↔◌, ◌⊎◌, [], false, 
 ghost use Rattle.cue_report.specs.Inner.GapSearch.{IsOpenAt};
 ghost use Rattle.cue_report.specs.Inner.Search as search;
 ghost use Rattle.cue_report.specs.Inner.Search.{is_above, is_empty_set};
-ghost use Rattle.cue_row.specs.Row.{IsRow, RowRefuses};
+ghost use Rattle.cue_row.specs.Row.{IsRow, RowRefusesQuestion};
 ghost use Rattle.cue_row.specs.Steps.{step_of};
 ghost use Rattle.cue_row.specs.declared.level.Level.TheVariants as levels;
 ghost use Rattle.cue_why.specs.Finding.{HasNoDefault, RefusesValues};
@@ -36,22 +36,22 @@ impl Finding {
     pub fn at(alloc: Global, rows: &[Row], path: &[Step]) -> Result<Option<Finding>, Memory>
         requires { length rows.now ≡ suc (length path.now) }
         ensures some { let steps = map step_of path.now in IfOk result (λ found.
-            IfSome found (IsReportedAs (TrailRefuses RowRefuses steps rows.now) steps)) }
+            IfSome found (IsReportedAs (TrailRefuses RowRefusesQuestion steps rows.now) steps)) }
         ensures none { let steps = map step_of path.now in IfOk result (λ found.
-            IfNone found (¬ IsReported (TrailRefuses RowRefuses steps rows.now) steps)) }
+            IfNone found (¬ IsReported (TrailRefuses RowRefusesQuestion steps rows.now) steps)) }
     {
         if !is_demanded(rows, path) {
             return Ok(None);
         }
         match rows.split_last() {
             None => Ok(None),
-            Some((row, _above)) => Finding::here(alloc, row, is_not_allowed(rows, path)),
+            Some((row, _above)) => Finding::finding_here(alloc, row, is_not_allowed(rows, path)),
         }
     }
 
     /// What has to be refused for what is reported at a demanded place with this row, the label of
     /// which is not allowed or is.
-    fn here(alloc: Global, row: &Row, not_allowed: bool) -> Result<Option<Finding>, Memory>
+    fn finding_here(alloc: Global, row: &Row, not_allowed: bool) -> Result<Option<Finding>, Memory>
         ensures some { IfOk result (λ found. IfSome found (IsFoundAt row.now not_allowed)) }
         ensures none { IfOk result (λ found. IfNone found (IsNothingAt row.now not_allowed)) }
     {
@@ -100,7 +100,7 @@ impl Finding {
     pub fn is_made_by(self, rows: &[Row], path: &[Step]) -> bool
         requires { length rows.now ≡ suc (length path.now) }
         ensures { let steps = map step_of path.now in
-            IsTrue result ↔ Meets self (TrailRefuses RowRefuses steps rows.now) steps }
+            IsTrue result ↔ Meets self (TrailRefuses RowRefusesQuestion steps rows.now) steps }
     {
         if !is_demanded(rows, path) {
             return false;

@@ -5,8 +5,8 @@ ghost use Rattle.cue_why.specs.Inner.Stacks.{IsStack, IsTrailOf, Suffice, ahead_
 ghost use Rattle.cue_why.specs.Least.{IsLeft};
 
 use crate::finding::Finding;
-use crate::met::{free_trail, met};
-use crate::source::Source;
+use crate::met::{free_trail, meet_trails};
+use crate::source::LayerSource;
 use crate::trail::trail_of;
 use cue_lattice::Memory;
 use cue_row::{Row, Step};
@@ -15,7 +15,7 @@ use std::alloc::Global;
 /// A source, what it refuses along a path, and what all sources behind it refuse there.
 #[derive(Drop)]
 pub(crate) struct Traced<'a> {
-    pub source: Source<'a>,
+    pub source: LayerSource<'a>,
     pub trail: Vec<Row>,
     pub behind: Vec<Row>,
 }
@@ -23,7 +23,7 @@ pub(crate) struct Traced<'a> {
 /// The sources with their trails, the last one first, and the trail of all.
 pub(crate) fn trace_all<'a>(
     alloc: Global,
-    sources: Vec<Source<'a>>,
+    sources: Vec<LayerSource<'a>>,
     path: &[Step],
 ) -> Result<(Vec<Traced<'a>>, Vec<Row>), Memory>
     ensures stack { IfOk result (λ all. IsStack (map step_of path.now) [] all.0.items) }
@@ -36,7 +36,7 @@ pub(crate) fn trace_all<'a>(
     let mut behind = free_trail(alloc, path)?;
     while let Some(source) = left.pop() {
         let trail = trail_of(alloc, &source, path)?;
-        let all = met(alloc, &trail, &behind)?;
+        let all = meet_trails(alloc, &trail, &behind)?;
         stack.push(Traced {
             source,
             trail,
@@ -49,12 +49,12 @@ pub(crate) fn trace_all<'a>(
 
 /// The sources of a stack without those that are left out, each once and in turn, where what remains
 /// still makes the finding.
-pub(crate) fn least<'a>(
+pub(crate) fn reduce_sources<'a>(
     alloc: Global,
     stack: Vec<Traced<'a>>,
     finding: Finding,
     path: &[Step],
-) -> Result<Vec<Source<'a>>, Memory>
+) -> Result<Vec<LayerSource<'a>>, Memory>
     requires { IsStack (map step_of path.now) [] stack.items }
     ensures { IfOk result (λ kept. IsLeft (Suffice finding (map step_of path.now)) []
         (ahead_of [] stack.entry.items) kept.items) }
@@ -68,9 +68,9 @@ pub(crate) fn least<'a>(
             trail,
             behind,
         } = one;
-        let others = met(alloc, &own, &behind)?;
+        let others = meet_trails(alloc, &own, &behind)?;
         if !finding.is_made_by(&others, path) {
-            own = met(alloc, &own, &trail)?;
+            own = meet_trails(alloc, &own, &trail)?;
             kept.push(source)?;
         }
     }

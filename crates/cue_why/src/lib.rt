@@ -14,10 +14,10 @@ mod trail;
 
 pub use cue_lattice::{Memory, Text};
 pub use cue_policies::LayerKind;
-pub use cue_report::Place;
+pub use cue_report::ReportPlace;
 pub use cue_row::{Row, Step};
 pub use cue_table::{Branch, Table};
 pub use making::{LeastMakers, makers};
 pub use part::WrittenPart;
 pub use shown::shown_parts;
-pub use source::Source;
+pub use source::LayerSource;

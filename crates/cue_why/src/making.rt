@@ -1,13 +1,13 @@
 //! Which sources make what is reported at a path.
 ghost use Rattle.std.specs.Prelude.{◌≡◌, ◌↔◌, [], map, IfOk, IsTrue};
 ghost use Rattle.cue_row.specs.Steps.{step_of};
-ghost use Rattle.cue_why.specs.Least.{IsLeast, IsLeft};
-ghost use Rattle.cue_why.specs.Reported.{IsOfLabel, IsReported};
+ghost use Rattle.cue_why.specs.Least.{IsLeastList, IsLeft};
+ghost use Rattle.cue_why.specs.Reported.{IsLabelReported, IsReported};
 ghost use Rattle.cue_why.specs.Sources.{SourcesMake, SourcesRefuse};
 
 use crate::finding::Finding;
-use crate::least::{least, trace_all};
-use crate::source::Source;
+use crate::least::{reduce_sources, trace_all};
+use crate::source::LayerSource;
 use cue_lattice::Memory;
 use cue_row::Step;
 use std::alloc::Global;
@@ -15,7 +15,7 @@ use std::alloc::Global;
 /// The sources that make what is reported at a path.
 #[derive(Drop)]
 pub struct LeastMakers<'a> {
-    pub sources: Vec<Source<'a>>,
+    pub sources: Vec<LayerSource<'a>>,
     /// The label at the end of the path is not allowed, and a value may be there: what makes this is
     /// said at the place above.
     pub of_label: bool,
@@ -30,7 +30,7 @@ pub struct LeastMakers<'a> {
 /// `Memory`. However many rows the view would have, this costs what the sources have along the path.
 pub fn makers<'a>(
     alloc: Global,
-    sources: Vec<Source<'a>>,
+    sources: Vec<LayerSource<'a>>,
     path: &[Step],
 ) -> Result<LeastMakers<'a>, Memory>
     ensures none { ¬ IsReported (SourcesRefuse sources.entry.items) (map step_of path.now)
@@ -40,9 +40,9 @@ pub fn makers<'a>(
         sources.entry.items made.sources.items) }
     ensures least { IsReported (SourcesRefuse sources.entry.items) (map step_of path.now)
         → IfOk result (λ made.
-        IsLeast (SourcesMake sources.entry.items (map step_of path.now)) made.sources.items) }
+        IsLeastList (SourcesMake sources.entry.items (map step_of path.now)) made.sources.items) }
     ensures label { IfOk result (λ made. IsTrue made.of_label
-        ↔ IsOfLabel (SourcesRefuse sources.entry.items) (map step_of path.now)) }
+        ↔ IsLabelReported (SourcesRefuse sources.entry.items) (map step_of path.now)) }
 {
     let (stack, whole) = trace_all(alloc, sources, path)?;
     match Finding::at(alloc, &whole, path)? {
@@ -51,7 +51,7 @@ pub fn makers<'a>(
             of_label: false,
         }),
         Some(finding) => Ok(LeastMakers {
-            sources: least(alloc, stack, finding, path)?,
+            sources: reduce_sources(alloc, stack, finding, path)?,
             of_label: finding.is_of_label(),
         }),
     }

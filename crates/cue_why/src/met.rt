@@ -1,7 +1,7 @@
 //! Trails: what is refused at each place along a path, by a row for the root and one behind each
 //! step.
 ghost use Rattle.std.specs.Prelude.{◌≡◌, [], length, map, IfOk};
-ghost use Rattle.cue_row.specs.Row.{RowRefuses};
+ghost use Rattle.cue_row.specs.Row.{RowRefusesQuestion};
 ghost use Rattle.cue_row.specs.Steps.{step_of};
 ghost use Rattle.cue_why.specs.Inner.Trails.{AreMet};
 ghost use Rattle.cue_why.specs.Inner.Stacks.{IsTrailOf};
@@ -23,9 +23,9 @@ pub(crate) fn free_trail(alloc: Global, path: &[Step]) -> Result<Vec<Row>, Memor
 }
 
 /// What two trails along one path refuse together.
-pub(crate) fn met(alloc: Global, one: &[Row], other: &[Row]) -> Result<Vec<Row>, Memory>
+pub(crate) fn meet_trails(alloc: Global, one: &[Row], other: &[Row]) -> Result<Vec<Row>, Memory>
     requires { length one.now ≡ length other.now }
-    ensures { IfOk result (λ rows. AreMet RowRefuses one.now other.now rows.items) }
+    ensures { IfOk result (λ rows. AreMet RowRefusesQuestion one.now other.now rows.items) }
 {
     let mut rows = Vec::with_capacity(alloc, one.len())?;
     for (i, row) in one.iter().enumerate() {

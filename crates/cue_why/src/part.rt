@@ -6,7 +6,7 @@ ghost use Rattle.cue_row.specs.Steps.{step_of};
 
 use cue_lattice::Memory;
 use cue_policies::{LayerKind, is_pattern};
-use cue_report::Place;
+use cue_report::ReportPlace;
 use cue_row::{Row, Step};
 use cue_table::Branch;
 use std::alloc::Global;
@@ -14,21 +14,25 @@ use std::alloc::Global;
 /// What a source has at a path, as it wrote that.
 #[derive(Drop)]
 pub struct WrittenPart<'a> {
-    pub written: Place,
+    pub written: ReportPlace,
     pub branch: Branch<'a, Row>,
 }
 
 /// The path one step further.
-pub(crate) fn further(alloc: Global, written: &Place, step: &Step) -> Result<Place, Memory>
+pub(crate) fn step_further(
+    alloc: Global,
+    written: &ReportPlace,
+    step: &Step,
+) -> Result<ReportPlace, Memory>
     ensures { IfOk result (λ path. path ≡ written.now ++ step_of step.now ∷ []) }
 {
-    let mut steps = copied(alloc, written.steps())?;
+    let mut steps = copy_steps(alloc, written.steps())?;
     steps.push(step.copy(alloc)?)?;
-    Ok(Place::new(steps))
+    Ok(ReportPlace::new(steps))
 }
 
 /// The same steps.
-fn copied(alloc: Global, steps: &[Step]) -> Result<Vec<Step>, Memory>
+fn copy_steps(alloc: Global, steps: &[Step]) -> Result<Vec<Step>, Memory>
     ensures { IfOk result (λ copied. copied.items ≡ steps.now) }
 {
     let mut copied = Vec::with_capacity(alloc, steps.len())?;

@@ -2,7 +2,7 @@
 ghost use Rattle.std.specs.Prelude.{◌≡◌, ◌≢◌, ◌↔◌, ◌⊎◌, [], map, IfOk, IsTrue, OnOk};
 ghost use Rattle.cue_lattice.specs.OneOf.{OneOf};
 ghost use Rattle.cue_row.specs.Steps.{step_of};
-ghost use Rattle.cue_table.specs.Tree.{below, rest_of, none, no_rest};
+ghost use Rattle.cue_table.specs.Tree.{below, rest_below, none, no_rest};
 ghost use Rattle.cue_why.specs.Inner.Parts.{IsIn};
 ghost use Rattle.cue_why.specs.Inner.Saying.{RefusesAny, pair_of};
 ghost use Rattle.cue_why.specs.Shown.{AreShown};
@@ -10,7 +10,7 @@ ghost use Rattle.cue_why.specs.declared.part.WrittenPart.{WrittenPart as Part};
 
 use crate::below::parts_below;
 use crate::part::WrittenPart;
-use crate::source::Source;
+use crate::source::LayerSource;
 use crate::trail::{held_row, root_parts};
 use cue_lattice::{Memory, Narrow};
 use cue_policies::LayerKind;
@@ -26,24 +26,24 @@ use std::alloc::Global;
 /// `Memory`.
 pub fn shown_parts<'a>(
     alloc: Global,
-    source: &Source<'a>,
+    source: &LayerSource<'a>,
     path: &[Step],
 ) -> Result<Vec<WrittenPart<'a>>, Memory>
     ensures { IfOk result (λ parts. AreShown source.now.kind source.now.table.now
         (map step_of path.now) (map pair_of parts.items)) }
 {
     let mut parts = root_parts(alloc, source)?;
-    let mut shown = refusing(alloc, source.kind, root_parts(alloc, source)?)?;
+    let mut shown = select_refusing(alloc, source.kind, root_parts(alloc, source)?)?;
     for step in path {
         let found = parts_below(alloc, source.kind, &parts, step)?;
-        shown = later(shown, refusing(alloc, source.kind, found)?);
+        shown = keep_later(shown, select_refusing(alloc, source.kind, found)?);
         parts = parts_below(alloc, source.kind, &parts, step)?;
     }
     Ok(shown)
 }
 
 /// The later ones of two lists of parts, unless there are none.
-fn later<'a>(shown: Vec<WrittenPart<'a>>, next: Vec<WrittenPart<'a>>) -> Vec<WrittenPart<'a>>
+fn keep_later<'a>(shown: Vec<WrittenPart<'a>>, next: Vec<WrittenPart<'a>>) -> Vec<WrittenPart<'a>>
     ensures none { next.entry.items ≡ [] → result.items ≡ shown.entry.items }
     ensures some { next.entry.items ≢ [] → result.items ≡ next.entry.items }
 {
@@ -51,7 +51,7 @@ fn later<'a>(shown: Vec<WrittenPart<'a>>, next: Vec<WrittenPart<'a>>) -> Vec<Wri
 }
 
 /// Those of some parts that refuse something.
-fn refusing<'a>(
+fn select_refusing<'a>(
     alloc: Global,
     kind: LayerKind,
     parts: Vec<WrittenPart<'a>>,
@@ -103,7 +103,7 @@ fn refuses_any(alloc: Global, kind: LayerKind, part: &WrittenPart) -> Result<boo
 /// Whether something is below a place.
 fn has_below(branch: &Branch<Row>) -> bool
     ensures { IsTrue result
-        ↔ ¬ ((below branch.now ≡ none) × (rest_of branch.now ≡ no_rest)) }
+        ↔ ¬ ((below branch.now ≡ none) × (rest_below branch.now ≡ no_rest)) }
 {
     let mut children = branch.children();
     match children.next() {

@@ -5,7 +5,7 @@ use cue_table::Table;
 
 /// A layer or a policy: its kind, its name and its table.
 #[derive(Drop)]
-pub struct Source<'a> {
+pub struct LayerSource<'a> {
     pub kind: LayerKind,
     /// The name; that of the commons is empty.
     pub name: Text,

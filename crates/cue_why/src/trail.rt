@@ -2,38 +2,42 @@
 ghost use Rattle.std.specs.Prelude.{◌≡◌, ◌↔◌, ◌∷◌, [], map, IfOk, OnOk};
 ghost use Rattle.cue_lattice.specs.OneOf.{OneOf};
 ghost use Rattle.cue_lattice.specs.Question.{Question};
-ghost use Rattle.cue_row.specs.Row.{RowRefuses};
+ghost use Rattle.cue_row.specs.Row.{RowRefusesQuestion};
 ghost use Rattle.cue_row.specs.Steps.{step_of};
-ghost use Rattle.cue_why.specs.Inner.Parts.{AreParts, GainsPart, Holds, IsHeldRow};
+ghost use Rattle.cue_why.specs.Inner.Parts.{AreParts, GainsPart, HoldsPart, IsHeldRow};
 ghost use Rattle.cue_why.specs.Inner.Stacks.{IsTrailOf};
 
 use crate::below::parts_below;
 use crate::part::{WrittenPart, ends_in_pattern};
-use crate::source::Source;
+use crate::source::LayerSource;
 use cue_lattice::{Memory, Narrow};
 use cue_policies::LayerKind;
-use cue_report::Place;
+use cue_report::ReportPlace;
 use cue_row::{Level, Row, Step};
 use std::alloc::Global;
 
 /// What a source has at the root.
 pub(crate) fn root_parts<'a>(
     alloc: Global,
-    source: &Source<'a>,
+    source: &LayerSource<'a>,
 ) -> Result<Vec<WrittenPart<'a>>, Memory>
     ensures { IfOk result (λ parts.
         AreParts source.now.kind source.now.table.now [] parts.items) }
 {
     let mut parts = Vec::with_capacity(alloc, 1)?;
     parts.push(WrittenPart {
-        written: Place::new(Vec::new(alloc)),
+        written: ReportPlace::new(Vec::new(alloc)),
         branch: source.table.root(),
     })?;
     Ok(parts)
 }
 
 /// What a source refuses at each place along a path: a row for the root, and one behind each step.
-pub(crate) fn trail_of(alloc: Global, source: &Source, path: &[Step]) -> Result<Vec<Row>, Memory>
+pub(crate) fn trail_of(
+    alloc: Global,
+    source: &LayerSource,
+    path: &[Step],
+) -> Result<Vec<Row>, Memory>
     ensures { IfOk result (λ rows.
         IsTrailOf (map step_of path.now) (source.now ∷ []) rows.items) }
 {
@@ -49,8 +53,8 @@ pub(crate) fn trail_of(alloc: Global, source: &Source, path: &[Step]) -> Result<
 
 /// What parts of one place refuse there together.
 fn row_of(alloc: Global, kind: LayerKind, parts: &[WrittenPart]) -> Result<Row, Memory>
-    ensures { IfOk result (λ row. (question : Question) → RowRefuses row question
-        ↔ OneOf (λ part. Holds kind part question) parts.now) }
+    ensures { IfOk result (λ row. (question : Question) → RowRefusesQuestion row question
+        ↔ OneOf (λ part. HoldsPart kind part question) parts.now) }
 {
     let mut row = Row::free(alloc)?;
     for part in parts {

@@ -11,9 +11,9 @@ use Rattle.std.specs.Int.{w32, from_be_bytes}
 use Rattle.cue_replica.specs.Language.{Table}
 use Rattle.cue_wire.specs.Serving.{ServesAll}
 use Rattle.cue_wire.specs.Sessions.{Standing, reading, ended, Served, standing_after}
-use Rattle.cue_wire.specs.Connections.{IsFault, IsStop, Passage, PassesBy, EndsAt, Moment, calls, failures}
-use Rattle.cue_wire.specs.Inner.Parts.{IsWriteFault, Moves, Replied, RepliesAt, IsPartServed, GoesOn}
-use Rattle.cue_wire.specs.Frames.{framed, frame_limit, named_length, IsBody, IsUnfinished, NamesTooMany, StopsAt}
+use Rattle.cue_wire.specs.Connections.{IsFault, IsServingStop, ServedPassage, PassesBy, ServingEndsAt, Moment, calls, failures}
+use Rattle.cue_wire.specs.Inner.Parts.{IsWriteFault, Moves, RepliesWritten, RepliesAt, IsPartServed, ServesOrStops}
+use Rattle.cue_wire.specs.Frames.{frame_of, frame_limit, named_length, IsBody, IsUnfinished, NamesTooMany, StopsAtFrame}
 
 -- the front of what was left is written too
 pub written_more : (bytes front rest : List ℕ) (n left left' : ℕ) (a b c : Option (List ℕ)) → bytes ≡ front ++ rest → Appends a b front → Appends b c (take n rest)
@@ -58,10 +58,10 @@ served_on read kept piece rest before between after written more one two = recor
   bodies = one.bodies ++ two.bodies;
   replies = one.replies ++ two.replies;
   frames = record {
-    whole = ap (λ zs. zs ++ piece) one.frames.whole ∙ append_assoc (flat_map framed one.bodies) kept piece
-        ∙ ap (λ zs. flat_map framed one.bodies ++ zs) two.frames.whole
-        ∙ sym (append_assoc (flat_map framed one.bodies) (flat_map framed two.bodies) rest)
-        ∙ ap (λ zs. zs ++ rest) (sym (flat_map-append framed one.bodies two.bodies));
+    whole = ap (λ zs. zs ++ piece) one.frames.whole ∙ append_assoc (flat_map frame_of one.bodies) kept piece
+        ∙ ap (λ zs. flat_map frame_of one.bodies ++ zs) two.frames.whole
+        ∙ sym (append_assoc (flat_map frame_of one.bodies) (flat_map frame_of two.bodies) rest)
+        ∙ ap (λ zs. zs ++ rest) (sym (flat_map-append frame_of one.bodies two.bodies));
     short = All-append IsBody one.bodies two.bodies one.frames.short two.frames.short;
   };
   tables = serves_all one.bodies two.bodies before between after one.replies two.replies one.tables two.tables;
@@ -96,7 +96,7 @@ fed_on stream part rest session before now after pending out taken taken' start 
 -- what the session makes of a part
 abbrev pub IsFed : Result (Unit {0}) Kind → List ℕ → Standing → Table → Table → List ℕ → List ℕ → Type 0
 IsFed fed stream session before after old new =
-    (rest : List ℕ) × StopsAt fed rest × (session ≡ standing_after fed rest) × Served stream rest before after old new
+    (rest : List ℕ) × StopsAtFrame fed rest × (session ≡ standing_after fed rest) × Served stream rest before after old new
 
 -- the replies wait
 held_back : (fed : Result (Unit {0}) Kind) (u : Unit {0}) (stream part : List ℕ) (session session' : Standing) (before now after : Table) (pending out : List ℕ)
@@ -107,7 +107,7 @@ held_back fed u stream part session session' before now after pending out taken 
   rest = f.0;
   written = p.written;
   keeps = subst (λ e. session' ≡ standing_after e f.0) ok f.2;
-  unfinished = subst (λ e. StopsAt e f.0) ok f.1;
+  unfinished = subst (λ e. StopsAtFrame e f.0) ok f.1;
   served = fed_on stream part f.0 session before now after pending out taken taken' start left p f.3;
   wrote = p.wrote;
   moves = p.moves;
@@ -117,7 +117,7 @@ held_back fed u stream part session session' before now after pending out taken 
 pub goes_on : (fed : Result (Unit {0}) Kind) (stream part : List ℕ) (session session' : Standing) (before now after : Table) (pending out : List ℕ)
     (taken taken' : Option (List ℕ)) (start left failed failed' : ℕ) → is_err fed ≡ false
     → (p : IsPartServed stream session before now pending taken taken' start left) → IsFed fed (p.rest ++ part) session' now after pending out
-    → GoesOn fed (stream ++ part) session' before after out taken taken' start left failed failed'
+    → ServesOrStops fed (stream ++ part) session' before after out taken taken' start left failed failed'
 goes_on (Ok u) stream part session session' before now after pending out taken taken' start left failed failed' went p f =
     held_back (Ok u) u stream part session session' before now after pending out taken taken' start left refl p f
 goes_on (Err kind) stream part session session' before now after pending out taken taken' start left failed failed' went p f = cc
@@ -147,7 +147,7 @@ pub cut_short : (fed : Result (Unit {0}) Kind) (kind : Kind) (stream part : List
     (taken taken' taken'' : Option (List ℕ)) (start left left' failed failed' : ℕ)
     → (p : IsPartServed stream session before now pending taken taken' start left) → IsFed fed (p.rest ++ part) session' now after pending out
     → IsWritten out taken' taken'' left left' failed failed' → IsWriteFault kind left' failed failed'
-    → Replied (Err kind) (stream ++ part) session' before after taken taken'' start left' failed failed'
+    → RepliesWritten (Err kind) (stream ++ part) session' before after taken taken'' start left' failed failed'
 cut_short fed kind stream part session session' before now after pending out taken taken' taken'' start left left' failed failed' p f w why = record {
   rest = f.0;
   written = p.written ++ w.0;
@@ -158,7 +158,7 @@ cut_short fed kind stream part session session' before now after pending out tak
   ends = inr (inr why);
 }
 
-fault_of : (kind : Kind) (rest back : List ℕ) (Stops : Type 0) → (kind ≡ kinds.Memory) ⊎ ((kind ≡ kinds.FrameTooLong) × NamesTooMany rest) → back ≡ [] → IsStop kind rest back Stops
+fault_of : (kind : Kind) (rest back : List ℕ) (Stops : Type 0) → (kind ≡ kinds.Memory) ⊎ ((kind ≡ kinds.FrameTooLong) × NamesTooMany rest) → back ≡ [] → IsServingStop kind rest back Stops
 fault_of kind rest back Stops stops nil = ⊎_elim (λ memory. inr (inl (memory, nil))) (λ long. inl (long.0, long.1, nil)) stops
 
 -- all replies are written, and serving goes on or stops as the session does
@@ -166,7 +166,7 @@ pub written_off : (fed : Result (Unit {0}) Kind) (stream part : List ℕ) (sessi
     (taken taken' taken'' : Option (List ℕ)) (start left left' failed failed' : ℕ) → none ≡ [] → failed' ≡ failed
     → (p : IsPartServed stream session before now pending taken taken' start left) → IsFed fed (p.rest ++ part) session' now after pending out
     → IsWrittenOut out taken' taken'' left left' failed failed'
-    → GoesOn fed (stream ++ part) session' before after none taken taken'' start left' failed failed'
+    → ServesOrStops fed (stream ++ part) session' before after none taken taken'' start left' failed failed'
 written_off (Ok u) stream part session session' before now after pending out none taken taken' taken'' start left left' failed failed' nil sound p f w = record {
   rest = f.0;
   written = p.written ++ w.0;
@@ -195,13 +195,13 @@ names_too_many rest more many = (
   subst (λ zs. frame_limit < from_be_bytes w32 zs) (sym (take-append-le 4 rest more many.0)) many.1,
 )
 
-stop_behind : (kind : Kind) (rest more unwritten : List ℕ) (Stops : Type 0) → IsStop kind rest unwritten Stops → IsStop kind (rest ++ more) unwritten Stops
+stop_behind : (kind : Kind) (rest more unwritten : List ℕ) (Stops : Type 0) → IsServingStop kind rest unwritten Stops → IsServingStop kind (rest ++ more) unwritten Stops
 stop_behind kind rest more unwritten Stops stop = ⊎_elim (λ long. inl (long.0, names_too_many rest more long.1, long.2)) inr stop
 
 -- serving stops before what comes behind
 pub stops_before : (kind : Kind) (stream more whole : List ℕ) (session : Standing) (before after : Table) (taken taken' : Option (List ℕ)) (start left failed failed' : ℕ)
-    → whole ≡ stream ++ more → Replied (Err kind) stream session before after taken taken' start left failed failed'
-    → Replied (Err kind) whole session before after taken taken' start left failed failed'
+    → whole ≡ stream ++ more → RepliesWritten (Err kind) stream session before after taken taken' start left failed failed'
+    → RepliesWritten (Err kind) whole session before after taken taken' start left failed failed'
 stops_before kind stream more whole session before after taken taken' start left failed failed' is r = record {
   rest = r.rest ++ more;
   written = r.written;
@@ -210,7 +210,7 @@ stops_before kind stream more whole session before after taken taken' start left
     bodies = r.served.bodies;
     replies = r.served.replies;
     frames = record {
-      whole = is ∙ ap (λ zs. zs ++ more) r.served.frames.whole ∙ append_assoc (flat_map framed r.served.bodies) r.rest more;
+      whole = is ∙ ap (λ zs. zs ++ more) r.served.frames.whole ∙ append_assoc (flat_map frame_of r.served.bodies) r.rest more;
       short = r.served.frames.short;
     };
     tables = r.served.tables;
@@ -225,7 +225,7 @@ stops_before kind stream more whole session before after taken taken' start left
 all_written : (u : Unit {0}) (stream : List ℕ) (session : Standing) (before after : Table) (pending : List ℕ) (taken taken' taken'' : Option (List ℕ))
     (start left left' failed failed' : ℕ) → (p : IsPartServed stream session before after pending taken taken' start left)
     → IsWrittenOut pending taken' taken'' left left' failed failed'
-    → Replied (Ok u) stream session before after taken taken'' start left' failed failed'
+    → RepliesWritten (Ok u) stream session before after taken taken'' start left' failed failed'
 all_written u stream session before after pending taken taken' taken'' start left left' failed failed' p w = record {
   rest = p.rest;
   written = p.written ++ w.0;
@@ -240,7 +240,7 @@ all_written u stream session before after pending taken taken' taken'' start lef
 some_written : (kind : Kind) (stream : List ℕ) (session : Standing) (before after : Table) (pending : List ℕ) (taken taken' taken'' : Option (List ℕ))
     (start left left' failed failed' : ℕ) → (p : IsPartServed stream session before after pending taken taken' start left)
     → IsWritten pending taken' taken'' left left' failed failed' → IsWriteFault kind left' failed failed'
-    → Replied (Err kind) stream session before after taken taken'' start left' failed failed'
+    → RepliesWritten (Err kind) stream session before after taken taken'' start left' failed failed'
 some_written kind stream session before after pending taken taken' taken'' start left left' failed failed' p w why = record {
   rest = p.rest;
   written = p.written ++ w.0;
@@ -256,7 +256,7 @@ pub ends_with : (result : Result (Unit {0}) Kind) (stream : List ℕ) (session :
     (start left left' failed failed' : ℕ) → (p : IsPartServed stream session before after pending taken taken' start left)
     → (front back : List ℕ) × (pending ≡ front ++ back) × Appends taken' taken'' front × OnOk result (back ≡ []) × Moves left left' failed failed' front
     → IfErr result (λ kind. IsWriteFault kind left' failed failed')
-    → Replied result stream session before after taken taken'' start left' failed failed'
+    → RepliesWritten result stream session before after taken taken'' start left' failed failed'
 ends_with (Ok u) stream session before after pending taken taken' taken'' start left left' failed failed' p w why =
     all_written u stream session before after pending taken taken' taken'' start left left' failed failed' p w
 ends_with (Err kind) stream session before after pending taken taken' taken'' start left left' failed failed' p w why =
@@ -302,7 +302,7 @@ begun table session at is = record {
 pub went_on : (before now after : Table) (session session' : Standing) (start at next : Moment) (result : Result (Unit {0}) Kind) (u : Unit {0}) (piece : List ℕ) (left left' failed failed' : ℕ)
     → (s : SoFar before now session start at) → Appends at.given next.given piece → Consumes at.to_come next.to_come piece → result ≡ Ok u → 0 < length piece
     → next.reads ≡ at.reads + 1 → next.writes + left' ≡ at.writes + left → failed' ≡ failed
-    → Replied result (s.kept ++ piece) session' now after at.taken next.taken left left' failed failed'
+    → RepliesWritten result (s.kept ++ piece) session' now after at.taken next.taken left left' failed failed'
     → SoFar before after session' start next
 went_on before now after session session' start at next result u piece left left' failed failed' s gave took ok some pull push sound r =
     let ends = subst (λ e. RepliesAt e r.rest r.unwritten session' left' failed failed') ok r.ends in
@@ -323,8 +323,8 @@ went_on before now after session session' start at next result u piece left left
 
 stop_for : (kind : Kind) (rest unwritten read written : List ℕ) (left failed failed' turns : ℕ) (start at : Moment)
     → (left ≡ 0 → failed' ≡ failed → (calls at ≡ calls start + turns) × (at.reads ≤ start.reads + length read) × (at.writes ≤ start.writes + length written))
-    → (failed < failed' → failures start < failures at) → IsStop kind rest unwritten (IsWriteFault kind left failed failed')
-    → IsStop kind rest unwritten (IsFault kind read written turns start at)
+    → (failed < failed' → failures start < failures at) → IsServingStop kind rest unwritten (IsWriteFault kind left failed failed')
+    → IsServingStop kind rest unwritten (IsFault kind read written turns start at)
 stop_for kind rest unwritten read written left failed failed' turns start at used broke =
     ⊎_elim inl (λ others. inr (⊎_elim inl (λ fault. inr (⊎_elim (λ out. let all = used out.1 out.2 in inl (out.0, all.0, all.1, all.2)) (λ device. inr (device.0, broke device.1)) fault)) others))
 
@@ -332,9 +332,9 @@ stop_for kind rest unwritten read written left failed failed' turns start at use
 pub stopped : (before now after : Table) (session session' : Standing) (start at next : Moment) (result : Result (Unit {0}) Kind) (kind : Kind) (piece : List ℕ) (turns left left' failed failed' : ℕ)
     → (s : SoFar before now session start at) → Appends at.given next.given piece → Consumes at.to_come next.to_come piece → result ≡ Err kind → 0 < length piece
     → next.reads ≡ at.reads + 1 → next.writes + left' ≡ at.writes + left
-    → Replied result (s.kept ++ piece) session' now after at.taken next.taken left left' failed failed'
+    → RepliesWritten result (s.kept ++ piece) session' now after at.taken next.taken left left' failed failed'
     → (left' ≡ 0 → calls next ≡ calls start + turns) → (failed < failed' → failures start < failures next)
-    → (passage : Passage before after) × PassesBy passage start next × EndsAt (Err kind) passage turns start next
+    → (passage : ServedPassage before after) × PassesBy passage start next × ServingEndsAt (Err kind) passage turns start next
 stopped before now after session session' start at next result kind piece turns left left' failed failed' s gave took err some pull push r used broke =
     let ends = subst (λ e. RepliesAt e r.rest r.unwritten session' left' failed failed') err r.ends in (
       record {
@@ -407,7 +407,7 @@ failed_read before now session start at given to_come s gave took = record {
 -- serving ends where all replies are written
 pub halted : (before now : Table) (session : Standing) (start at : Moment) → (s : SoFar before now session start at)
     (Ends : List ℕ → List ℕ → List ℕ → List ℕ → Type 0) → Ends s.kept [] s.read s.written
-    → (passage : Passage before now) × PassesBy passage start at × Ends passage.rest passage.unwritten passage.read passage.written
+    → (passage : ServedPassage before now) × PassesBy passage start at × Ends passage.rest passage.unwritten passage.read passage.written
 halted before now session start at s Ends ends = (
   record {
     read = s.read;

@@ -14,7 +14,7 @@ use Rattle.tokio_util.specs.Codec.LengthField.{Layout, default_layout, field_val
 use Rattle.tokio_util.specs.Codec.LengthDelimited.{codec_layout, IsAtHead, cut_adjusted, cut_payload, cut, Answers, IsUnfinished, gives_frames}
 use Rattle.tokio_util.specs.Codec.LengthDelimited as codec
 use Rattle.tokio_util.specs.Codec.LengthDelimitedLaws.{cut_frame_head, cut_payload_whole}
-use Rattle.cue_wire.specs.Frames.{frame_limit, named_length, framed, IsBody}
+use Rattle.cue_wire.specs.Frames.{frame_limit, named_length, frame_of, IsBody}
 use Rattle.cue_wire.specs.Inner.Pieces.{IsWhole}
 
 abbrev pub our_layout : Layout
@@ -52,7 +52,7 @@ answers_whole c xs p r None t ys is h =
     (tt, subst IsUnfinished is none)
 
 -- the length, the body and what follows are the stream
-whole_again : (xs : List ℕ) (n k : ℕ) → to_be_bytes w32 n ≡ take 4 xs → length (take k (drop 4 xs)) ≡ n → framed (take k (drop 4 xs)) ++ drop k (drop 4 xs) ≡ xs
+whole_again : (xs : List ℕ) (n k : ℕ) → to_be_bytes w32 n ≡ take 4 xs → length (take k (drop 4 xs)) ≡ n → frame_of (take k (drop 4 xs)) ++ drop k (drop 4 xs) ≡ xs
 whole_again xs n k spelled long =
     ap (λ m. (to_be_bytes w32 m ++ take k (drop 4 xs)) ++ drop k (drop 4 xs)) long
     ∙ ap (λ zs. (zs ++ take k (drop 4 xs)) ++ drop k (drop 4 xs)) spelled
@@ -60,16 +60,16 @@ whole_again xs n k spelled long =
     ∙ ap (λ zs. take 4 xs ++ zs) (take-append-drop k (drop 4 xs))
     ∙ take-append-drop 4 xs
 
-taken_of : (xs : List ℕ) (n : ℕ) (o : Option Filled) (ys : List ℕ) → to_be_bytes w32 n ≡ take 4 xs → n ≤ frame_limit → length (take (named_length xs) (drop 4 xs)) ≡ n → IfSome o (λ b. (b.items ≡ take (named_length xs) (drop 4 xs)) × (ys ≡ drop (named_length xs) (drop 4 xs))) → IfSome o (λ body. IsBody body.items × (xs ≡ framed body.items ++ ys))
+taken_of : (xs : List ℕ) (n : ℕ) (o : Option Filled) (ys : List ℕ) → to_be_bytes w32 n ≡ take 4 xs → n ≤ frame_limit → length (take (named_length xs) (drop 4 xs)) ≡ n → IfSome o (λ b. (b.items ≡ take (named_length xs) (drop 4 xs)) × (ys ≡ drop (named_length xs) (drop 4 xs))) → IfSome o (λ body. IsBody body.items × (xs ≡ frame_of body.items ++ ys))
 taken_of xs n (Some b) ys spelled within long h = (
   omega (arith, ap length h.0, long),
-  sym (ap (λ zs. framed b.items ++ zs) h.1 ∙ ap (λ zs. framed zs ++ drop (named_length xs) (drop 4 xs)) h.0 ∙ whole_again xs n (named_length xs) spelled long),
+  sym (ap (λ zs. frame_of b.items ++ zs) h.1 ∙ ap (λ zs. frame_of zs ++ drop (named_length xs) (drop 4 xs)) h.0 ∙ whole_again xs n (named_length xs) spelled long),
 )
 taken_of xs n None ys spelled within long h = tt
 
 -- what `next_frame` says of a whole frame
 pub taken : (c : LengthDelimitedCodec) (xs : List ℕ) (n : ℕ) (o : Option Filled) (t : LengthDelimitedCodec) (ys : List ℕ) → codec_layout c ≡ our_layout → IsAtHead c → IsWhole xs n → Decodes gives_frames c xs (Ok o) t ys
-    → IfSome o (λ body. IsBody body.items × (xs ≡ framed body.items ++ ys)) × IfNone o ⊥
+    → IfSome o (λ body. IsBody body.items × (xs ≡ frame_of body.items ++ ys)) × IfNone o ⊥
 taken c xs n o t ys layout head w h =
     let a = answers_whole c xs _ _ o t ys (cut_whole c xs layout head w.head (omega (arith, w.named, w.short)) (omega (arith, w.named, w.there))) h in
     (taken_of xs n o ys w.spelled w.short (length-take-le (named_length xs) (drop 4 xs) (omega (arith, length-drop 4 xs, w.named, w.there)) ∙ sym w.named) a.0, a.1)
@@ -80,7 +80,7 @@ fails_for_room c xs n e t ys layout head w h =
     (subst (λ v. Answers c xs v (Err e) t ys) (cut_whole c xs layout head w.head (omega (arith, w.named, w.short)) (omega (arith, w.named, w.there))) h).0
 
 -- the two parts of a stream with a whole frame at its front
-pub cut_in_two : (xs : List ℕ) (n : ℕ) → IsWhole xs n → IsBody (take n (drop 4 xs)) × (xs ≡ framed (take n (drop 4 xs)) ++ drop n (drop 4 xs))
+pub cut_in_two : (xs : List ℕ) (n : ℕ) → IsWhole xs n → IsBody (take n (drop 4 xs)) × (xs ≡ frame_of (take n (drop 4 xs)) ++ drop n (drop 4 xs))
 cut_in_two xs n w =
     let long : length (take n (drop 4 xs)) ≡ n = length-take-le n (drop 4 xs) (omega (arith, length-drop 4 xs, w.there)) in
     (omega (arith, long, w.short), sym (whole_again xs n n w.spelled long))

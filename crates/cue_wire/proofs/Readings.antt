@@ -5,30 +5,30 @@ use Rattle.std.proofs.lemmas.List.Elements.{All-head, All-tail}
 use Rattle.std.proofs.lemmas.Nat.{from_be_bytes-to_be_bytes_4}
 use Rattle.std.specs.Int.{w32, to_be_bytes, from_be_bytes}
 use Rattle.cue_replica.specs.Language.{Table}
-use Rattle.cue_wire.specs.Frames.{framed, named_length, IsBody, AreFrames}
+use Rattle.cue_wire.specs.Frames.{frame_of, named_length, IsBody, AreFrames}
 use Rattle.cue_wire.specs.Readings.{IsLast, AreReadings}
 use Rattle.cue_wire.specs.Serving.{ServesAll}
 use Rattle.cue_wire.proofs.Exchanges.{joined}
 
 -- the length that a frame names is that of its body
-named_front : (body rest : List ℕ) → IsBody body → named_length (framed body ++ rest) ≡ length body
+named_front : (body rest : List ℕ) → IsBody body → named_length (frame_of body ++ rest) ≡ length body
 unfolding named_length
 named_front body rest fits =
     ap (λ zs. from_be_bytes w32 (take 4 zs)) (append_assoc (to_be_bytes w32 (length body)) body rest)
     ∙ ap (from_be_bytes w32) (take_at (to_be_bytes w32 (length body)) (body ++ rest) 4 refl)
     ∙ from_be_bytes-to_be_bytes_4 (length body) (omega (arith, fits))
 
-long_front : (body rest : List ℕ) → length (framed body ++ rest) ≡ 4 + length body + length rest
-long_front body rest = omega (arith, length-append (framed body) rest, length-append (to_be_bytes w32 (length body)) body)
+long_front : (body rest : List ℕ) → length (frame_of body ++ rest) ≡ 4 + length body + length rest
+long_front body rest = omega (arith, length-append (frame_of body) rest, length-append (to_be_bytes w32 (length body)) body)
 
 -- a whole frame is no rest
-not_last : (body rest : List ℕ) → IsBody body → IsLast (framed body ++ rest) → ⊥
+not_last : (body rest : List ℕ) → IsBody body → IsLast (frame_of body ++ rest) → ⊥
 not_last body rest fits (inl (inl short)) = omega (arith, short, long_front body rest)
 not_last body rest fits (inl (inr part)) = omega (arith, part.1, named_front body rest fits, long_front body rest)
 not_last body rest fits (inr many) = omega (arith, fits, many.1, named_front body rest fits)
 
 -- the first frame and what comes behind it
-split_front : (a b x y : List ℕ) → IsBody a → IsBody b → framed a ++ x ≡ framed b ++ y → (a ≡ b) × (x ≡ y)
+split_front : (a b x y : List ℕ) → IsBody a → IsBody b → frame_of a ++ x ≡ frame_of b ++ y → (a ≡ b) × (x ≡ y)
 split_front a b x y fits_a fits_b e =
     let long : length a ≡ length b = sym (named_front a x fits_a) ∙ ap named_length e ∙ named_front b y fits_b in
     let whole : to_be_bytes w32 (length a) ++ (a ++ x) ≡ to_be_bytes w32 (length a) ++ (b ++ y) =
@@ -39,16 +39,16 @@ split_front a b x y fits_a fits_b e =
       sym (drop_at a x (length a) refl) ∙ ap (drop (length a)) behind ∙ drop_at b y (length a) (sym long),
     )
 
-read_once : (firsts seconds : List (List ℕ)) (x y : List ℕ) → flat_map framed firsts ++ x ≡ flat_map framed seconds ++ y → All IsBody firsts → All IsBody seconds
+read_once : (firsts seconds : List (List ℕ)) (x y : List ℕ) → flat_map frame_of firsts ++ x ≡ flat_map frame_of seconds ++ y → All IsBody firsts → All IsBody seconds
     → IsLast x → IsLast y → (firsts ≡ seconds) × (x ≡ y)
 read_once [] [] x y e fits_a fits_b last_x last_y = (refl, e)
 read_once [] (b ∷ seconds) x y e fits_a fits_b last_x last_y =
-    absurd (not_last b (flat_map framed seconds ++ y) (All-head IsBody b seconds fits_b) (subst IsLast (e ∙ append_assoc (framed b) (flat_map framed seconds) y) last_x))
+    absurd (not_last b (flat_map frame_of seconds ++ y) (All-head IsBody b seconds fits_b) (subst IsLast (e ∙ append_assoc (frame_of b) (flat_map frame_of seconds) y) last_x))
 read_once (a ∷ firsts) [] x y e fits_a fits_b last_x last_y =
-    absurd (not_last a (flat_map framed firsts ++ x) (All-head IsBody a firsts fits_a) (subst IsLast (sym e ∙ append_assoc (framed a) (flat_map framed firsts) x) last_y))
+    absurd (not_last a (flat_map frame_of firsts ++ x) (All-head IsBody a firsts fits_a) (subst IsLast (sym e ∙ append_assoc (frame_of a) (flat_map frame_of firsts) x) last_y))
 read_once (a ∷ firsts) (b ∷ seconds) x y e fits_a fits_b last_x last_y =
-    let front = split_front a b (flat_map framed firsts ++ x) (flat_map framed seconds ++ y) (All-head IsBody a firsts fits_a) (All-head IsBody b seconds fits_b)
-    (sym (append_assoc (framed a) (flat_map framed firsts) x) ∙ e ∙ append_assoc (framed b) (flat_map framed seconds) y) in
+    let front = split_front a b (flat_map frame_of firsts ++ x) (flat_map frame_of seconds ++ y) (All-head IsBody a firsts fits_a) (All-head IsBody b seconds fits_b)
+    (sym (append_assoc (frame_of a) (flat_map frame_of firsts) x) ∙ e ∙ append_assoc (frame_of b) (flat_map frame_of seconds) y) in
     let more = read_once firsts seconds x y front.1 (All-tail IsBody a firsts fits_a) (All-tail IsBody b seconds fits_b) last_x last_y in
     (ap (λ z. z ∷ firsts) front.0 ∙ ap (λ zs. b ∷ zs) more.0, more.1)
 

@@ -11,7 +11,7 @@ use Rattle.cue_wire.specs.declared.connection.Ended.{Ended}
 
 -- These bytes were read, and their frames up to a rest were served, one after the other. Of the
 -- replies these bytes were written, and those were not.
-pub record Passage (before after : Table) : Type 0 where
+pub record ServedPassage (before after : Table) : Type 0 where
   pub read : List ℕ
   pub rest : List ℕ
   pub written : List ℕ
@@ -31,9 +31,9 @@ pub record Moment : Type 0 where
   pub failed_writes : ℕ
 
 -- what these two tell, by what devices of their types do
-abbrev pub moment : {S K : Type 0} → (S → Option (List ℕ)) → (S → Option (List ℕ))
+abbrev pub moment_of : {S K : Type 0} → (S → Option (List ℕ)) → (S → Option (List ℕ))
     → (K → Option (List ℕ)) → (S → ℕ) → (K → ℕ) → (S → ℕ) → (K → ℕ) → S → K → Moment
-moment given to_come taken reads writes failed_reads failed_writes source sink = record {
+moment_of given to_come taken reads writes failed_reads failed_writes source sink = record {
   given = given source;
   to_come = to_come source;
   taken = taken sink;
@@ -52,7 +52,7 @@ failures at = at.failed_reads + at.failed_writes
 
 -- What a source gave is what was read, and what a sink took is what was written, as far as they
 -- tell it.
-abbrev pub PassesBy : {start end : Table} → Passage start end → Moment → Moment → Type 0
+abbrev pub PassesBy : {start end : Table} → ServedPassage start end → Moment → Moment → Type 0
 PassesBy passage before after =
     Appends before.given after.given passage.read
     × Consumes before.to_come after.to_come passage.read
@@ -60,8 +60,8 @@ PassesBy passage before after =
 
 -- Why serving stops before the end of the input: the next bytes name a length that no frame has, or
 -- memory ran out, and then all replies are written; or writing them stops.
-abbrev pub IsStop : Kind → List ℕ → List ℕ → Type 0 → Type 0
-IsStop kind rest unwritten Stops =
+abbrev pub IsServingStop : Kind → List ℕ → List ℕ → Type 0 → Type 0
+IsServingStop kind rest unwritten Stops =
     ((kind ≡ kinds.FrameTooLong) × NamesTooMany rest × (unwritten ≡ []))
     ⊎ ((kind ≡ kinds.Memory) × (unwritten ≡ []))
     ⊎ Stops
@@ -78,12 +78,12 @@ IsFault kind read written turns before after =
 -- How serving ends: at the end of the input, where all that was read is served but a frame that
 -- isn't whole, and all replies are written; or before, and then memory ran out only where bytes
 -- were read.
-abbrev pub EndsAt : {start end : Table} → Result Ended Kind → Passage start end → ℕ → Moment
+abbrev pub ServingEndsAt : {start end : Table} → Result Ended Kind → ServedPassage start end → ℕ → Moment
     → Moment → Type 0
-EndsAt (Ok ended) passage turns before after =
+ServingEndsAt (Ok ended) passage turns before after =
     IsAtEnd after.to_come × IsUnfinished passage.rest × (passage.unwritten ≡ [])
     × (IsTrue ended.whole ↔ passage.rest ≡ []) × (failures after ≡ failures before)
-EndsAt (Err kind) passage turns before after =
-    IsStop kind passage.rest passage.unwritten
+ServingEndsAt (Err kind) passage turns before after =
+    IsServingStop kind passage.rest passage.unwritten
     (IsFault kind passage.read passage.written turns before after)
     × (kind ≡ kinds.Memory → passage.read ≢ [])

@@ -13,8 +13,8 @@ abbrev pub IsBody : List ℕ → Type 0
 IsBody body = length body ≤ frame_limit
 
 -- a body with its length before it
-abbrev pub framed : List ℕ → List ℕ
-framed body = to_be_bytes w32 (length body) ++ body
+abbrev pub frame_of : List ℕ → List ℕ
+frame_of body = to_be_bytes w32 (length body) ++ body
 
 -- the length that the first four bytes name
 unfoldable pub named_length : List ℕ → ℕ
@@ -27,8 +27,8 @@ IsUnfinished bytes =
     ⊎ ((named_length bytes ≤ frame_limit) × (length bytes < 4 + named_length bytes))
 
 -- So many bytes more end the length at the front, or where it is known the frame.
-abbrev pub Lacks : List ℕ → ℕ → Type 0
-Lacks bytes count =
+abbrev pub LacksBytes : List ℕ → ℕ → Type 0
+LacksBytes bytes count =
     ((length bytes < 4) × (length bytes + count ≡ 4))
     ⊎ ((4 ≤ length bytes) × (length bytes + count ≡ 4 + named_length bytes))
 
@@ -38,7 +38,7 @@ NamesTooMany bytes = (4 ≤ length bytes) × (frame_limit < named_length bytes)
 
 -- The stream is the frames of these bodies, and then the rest.
 pub record AreFrames (stream : List ℕ) (bodies : List (List ℕ)) (rest : List ℕ) : Type 0 where
-  pub whole : stream ≡ flat_map framed bodies ++ rest
+  pub whole : stream ≡ flat_map frame_of bodies ++ rest
   pub short : All IsBody bodies
 
 -- Behind the whole frames of the stream stands a length that no frame has.
@@ -48,7 +48,7 @@ HasFault stream =
 
 -- Why reading stops at the rest of a stream: no frame there is whole; or no frame has the length
 -- there; or memory ran out.
-abbrev pub StopsAt : {T : Type 0} → Result T Kind → List ℕ → Type 0
-StopsAt (Ok value) rest = IsUnfinished rest
-StopsAt (Err kind) rest =
+abbrev pub StopsAtFrame : {T : Type 0} → Result T Kind → List ℕ → Type 0
+StopsAtFrame (Ok value) rest = IsUnfinished rest
+StopsAtFrame (Err kind) rest =
     (kind ≡ kinds.Memory) ⊎ ((kind ≡ kinds.FrameTooLong) × NamesTooMany rest)

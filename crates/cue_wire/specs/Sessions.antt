@@ -11,13 +11,13 @@ pub data Standing : Type 0 where
   reading : List ℕ → Standing
   ended : Standing
 
-abbrev pub standing : Bool → List ℕ → Standing
-standing true rest = ended
-standing false rest = reading rest
+abbrev pub session_standing : Bool → List ℕ → Standing
+session_standing true rest = ended
+session_standing false rest = reading rest
 
-abbrev pub IsReading : Standing → Type 0
-IsReading (reading rest) = ⊤
-IsReading ended = ⊥
+abbrev pub IsSessionReading : Standing → Type 0
+IsSessionReading (reading rest) = ⊤
+IsSessionReading ended = ⊥
 
 -- All whole frames of the stream up to this rest were served, one after the other, and their
 -- replies added to what was to be written.

@@ -2,7 +2,7 @@ ghost use Rattle.std.specs.Prelude.{◌≡◌, [], IfSome, IfNone};
 ghost use Rattle.cue_wire.specs.Requests.{IsRequest, IsNoRequest};
 ghost use Rattle.cue_wire.specs.Inner.Calls.{request_of};
 
-use cue_answer::Question;
+use cue_answer::SiteQuestion;
 use std::str;
 
 /// What a frame's body asks of a site.
@@ -13,7 +13,7 @@ pub enum Call<'b> {
     /// To accept state bytes.
     State(&'b [u8]),
     /// A question.
-    Ask(Question),
+    Ask(SiteQuestion),
 }
 
 impl<'b> Call<'b> {
@@ -26,17 +26,17 @@ impl<'b> Call<'b> {
         match *first {
             1 => Some(Call::Text(str::from_utf8(rest).ok()?)),
             2 => Some(Call::State(rest)),
-            3 => alone(Question::State, rest),
-            4 => alone(Question::Export, rest),
-            5 => alone(Question::Report, rest),
-            6 => alone(Question::Print, rest),
+            3 => question_alone(SiteQuestion::State, rest),
+            4 => question_alone(SiteQuestion::Export, rest),
+            5 => question_alone(SiteQuestion::Report, rest),
+            6 => question_alone(SiteQuestion::Print, rest),
             _ => None,
         }
     }
 }
 
 /// A question behind which no more bytes come.
-fn alone<'b>(question: Question, rest: &[u8]) -> Option<Call<'b>>
+fn question_alone<'b>(question: SiteQuestion, rest: &[u8]) -> Option<Call<'b>>
     ensures some { IfSome result (λ call. (rest.now ≡ []) × (call ≡ Call.Ask question)) }
     ensures none { IfNone result (rest.now ≡ [] → ⊥) }
 {

@@ -1,13 +1,13 @@
 ghost use Rattle.std.specs.Prelude.{◌≡◌, ◌⊎◌, ◌++◌, ◌∷◌, ◌≤◌, ℕ, List, [], Vec, drop, length};
 ghost use Rattle.std.specs.Prelude.{flat_map, All, IfOk, IfErr, OnOk, OnErr};
 ghost use Rattle.std.specs.Global.{Global};
-ghost use Rattle.cue_wire.specs.Frames.{framed, IsBody, HasFault, StopsAt};
-ghost use Rattle.cue_wire.specs.Clients.{request_frame, IsSendable, HasTaken, all_items};
-ghost use Rattle.cue_wire.specs.Inner.Pieces.{Gains, Extends};
+ghost use Rattle.cue_wire.specs.Frames.{frame_of, IsBody, HasFault, StopsAtFrame};
+ghost use Rattle.cue_wire.specs.Clients.{request_frame, IsSendable, ClientHasTaken, all_items};
+ghost use Rattle.cue_wire.specs.Inner.Pieces.{Gains, AppendsBytes};
 
 use crate::Request;
 use crate::frame::{FRAME_LIMIT, cut_frame};
-use crate::want::{want, want_of};
+use crate::want::{memory_kind, want_of};
 use bytes::BytesMut;
 use cue_replica::{Kind, Memory};
 use std::alloc::Global;
@@ -27,9 +27,9 @@ pub struct Client {
 }
 
 impl Model for Client {
-    ghost use Rattle.cue_wire.specs.Clients.{Exchange, all_items};
+    ghost use Rattle.cue_wire.specs.Clients.{ClientExchange, all_items};
 
-    ghost Value = { Exchange };
+    ghost Value = { ClientExchange };
 
     ghost view = { λ client. record {
       outgoing = client.outgoing.items;
@@ -48,7 +48,7 @@ impl Client {
         ensures outgoing { IfOk result (λ client.
             client.outgoing ≡ flat_map request_frame requests.now) }
         ensures fits { OnOk result (All IsSendable requests.now) }
-        ensures taken { IfOk result (λ client. HasTaken client []) }
+        ensures taken { IfOk result (λ client. ClientHasTaken client []) }
         ensures err { IfErr result (λ kind. (kind ≡ Kind.Memory) ⊎ ((kind ≡ Kind.FrameTooLong)
             × (All IsSendable requests.now → ⊥))) }
     {
@@ -85,10 +85,10 @@ impl Client {
     /// `FrameTooLong` where the bytes behind the last whole frame name a length that no frame has,
     /// and `Memory`.
     pub fn feed(&mut self, piece: &[u8]) -> Result<(), Kind>
-        ensures ok { OnOk result ((stream : List ℕ) → HasTaken self.old stream
-            → HasTaken self.new (stream ++ piece.now)) }
+        ensures ok { OnOk result ((stream : List ℕ) → ClientHasTaken self.old stream
+            → ClientHasTaken self.new (stream ++ piece.now)) }
         ensures long { IfErr result (λ kind. (kind ≡ Kind.Memory) ⊎ ((kind ≡ Kind.FrameTooLong)
-            × ((stream : List ℕ) → HasTaken self.old stream → HasFault (stream ++ piece.now)))) }
+            × ((stream : List ℕ) → ClientHasTaken self.old stream → HasFault (stream ++ piece.now)))) }
         ensures err { OnErr result (self.new ≡ self.old) }
         ensures outgoing { self.new.outgoing ≡ self.old.outgoing }
     {
@@ -122,7 +122,7 @@ fn push_frame(out: &mut Vec<u8>, request: &Request) -> Result<(), Kind>
 
 /// Adds a frame with this first byte of its body and these behind it.
 fn push_body(out: &mut Vec<u8>, first: u8, rest: &[u8]) -> Result<(), Kind>
-    ensures ok { OnOk result ((out.new.items ≡ out.old.items ++ framed (first ∷ rest.now))
+    ensures ok { OnOk result ((out.new.items ≡ out.old.items ++ frame_of (first ∷ rest.now))
         × IsBody (first ∷ rest.now)) }
     ensures err { IfErr result (λ kind. (kind ≡ Kind.Memory) ⊎ ((kind ≡ Kind.FrameTooLong)
         × (IsBody (first ∷ rest.now) → ⊥))) }
@@ -130,12 +130,12 @@ fn push_body(out: &mut Vec<u8>, first: u8, rest: &[u8]) -> Result<(), Kind>
     if rest.len() >= FRAME_LIMIT {
         return Err(Kind::FrameTooLong);
     }
-    write_body(out, first, rest).map_err(want)
+    write_body(out, first, rest).map_err(memory_kind)
 }
 
 fn write_body(out: &mut Vec<u8>, first: u8, rest: &[u8]) -> Result<(), Memory>
     requires fits { IsBody (first ∷ rest.now) }
-    ensures ok { OnOk result (out.new.items ≡ out.old.items ++ framed (first ∷ rest.now)) }
+    ensures ok { OnOk result (out.new.items ≡ out.old.items ++ frame_of (first ∷ rest.now)) }
 {
     out.extend_from_slice(&(rest.len() as u32 + 1).to_be_bytes())?;
     out.push(first)?;
@@ -151,9 +151,9 @@ fn take_piece(
     piece: &[u8],
     replies: &mut Vec<Vec<u8>>,
 ) -> Result<(), Kind>
-    ensures { (rest : List ℕ) × StopsAt result rest
+    ensures { (rest : List ℕ) × StopsAtFrame result rest
         × OnOk result (unread.new.items ≡ rest)
-        × OnErr result (Extends unread.old.items unread.new.items)
+        × OnErr result (AppendsBytes unread.old.items unread.new.items)
         × Gains (unread.old.items ++ piece.now) rest replies.old.items replies.new.items }
 {
     if let Err(error) = unread.extend_from_slice(piece) {
@@ -166,13 +166,13 @@ fn take_piece(
 
 /// Adds the bodies of the whole frames at the front, and tells how many bytes these take.
 fn read_frames(alloc: Global, stream: &[u8], replies: &mut Vec<Vec<u8>>) -> Result<usize, Kind>
-    ensures { (rest : List ℕ) × StopsAt result rest
+    ensures { (rest : List ℕ) × StopsAtFrame result rest
         × IfOk result (λ used. (used ≤ length stream.now) × (drop used stream.now ≡ rest))
         × Gains stream.now rest replies.old.items replies.new.items }
 {
     let mut rest = stream;
     while let Some((body, behind)) = cut_frame(rest)? {
-        push_copy(alloc, replies, body).map_err(want)?;
+        push_copy(alloc, replies, body).map_err(memory_kind)?;
         rest = behind;
     }
     Ok(stream.len() - rest.len())

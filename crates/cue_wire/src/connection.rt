@@ -2,9 +2,9 @@ ghost use Rattle.std.specs.Prelude.{◌≡◌, ◌-◌, ◌+◌, ◌^◌, ◌≤
 ghost use Rattle.std.specs.Prelude.{IfErr};
 ghost use Rattle.std.specs.Io.KnownBytes.{Appends};
 ghost use Rattle.cue_replica.specs.Language.{Table};
-ghost use Rattle.cue_wire.specs.Connections.{Passage, PassesBy, EndsAt, moment};
+ghost use Rattle.cue_wire.specs.Connections.{ServedPassage, PassesBy, ServingEndsAt, moment_of};
 ghost use Rattle.cue_wire.specs.Frames.{IsUnfinished};
-ghost use Rattle.cue_wire.specs.Inner.Parts.{Replied, IsWriteFault, IsPartServed, GoesOn, Moves};
+ghost use Rattle.cue_wire.specs.Inner.Parts.{RepliesWritten, IsWriteFault, IsPartServed, ServesOrStops, Moves};
 ghost use Rattle.cue_wire.specs.Sessions.{reading};
 
 use crate::frame::PIECE;
@@ -44,16 +44,16 @@ pub fn serve<S: Source, K: Sink>(
 ) -> Result<Ended, Kind>
     requires reads { S.called source.old + turns ≤ 2 ^ 64 - 1 }
     requires writes { K.called sink.old + turns ≤ 2 ^ 64 - 1 }
-    ensures passage { let at = moment S.given S.to_come K.taken S.called K.called S.failed K.failed in
-        (passage : Passage site.old site.new)
+    ensures passage { let at = moment_of S.given S.to_come K.taken S.called K.called S.failed K.failed in
+        (passage : ServedPassage site.old site.new)
         × PassesBy passage (at source.old sink.old) (at source.new sink.new)
-        × EndsAt result passage turns (at source.old sink.old) (at source.new sink.new) }
+        × ServingEndsAt result passage turns (at source.old sink.old) (at source.new sink.new) }
     ensures reads { S.called source.old ≤ S.called source.new }
     ensures writes { K.called sink.old ≤ K.called sink.new }
     ensures turns { S.called source.new + K.called sink.new
         ≤ S.called source.old + K.called sink.old + turns }
 {
-    let mut session = Session::begun(alloc);
+    let mut session = Session::new_unfed(alloc);
     let mut out = Vec::new(alloc);
     let mut piece = [0u8; PIECE];
     let mut left = turns;
@@ -89,7 +89,7 @@ fn serve_piece<K: Sink>(
 ) -> Result<(), Kind>
     requires { K.called sink.old + left.old ≤ 2 ^ 64 - 1 }
     ensures served { (kept : List ℕ) → session.old ≡ reading kept → IsUnfinished kept
-        → Replied result (kept ++ piece.now) session.new site.old site.new
+        → RepliesWritten result (kept ++ piece.now) session.new site.old site.new
         (K.taken sink.old) (K.taken sink.new) left.old left.new
         (K.failed sink.old) (K.failed sink.new) }
     ensures turns { K.called sink.new + left.new ≡ K.called sink.old + left.old }
@@ -119,7 +119,7 @@ fn serve_part<K: Sink>(
     ensures served { (stream : List ℕ) (start : Table) (taken : Option (List ℕ)) (turns : ℕ)
         → IsPartServed stream session.old start site.old out.old.items taken (K.taken sink.old)
         turns left.old
-        → GoesOn result (stream ++ part.now) session.new start site.new out.new.items
+        → ServesOrStops result (stream ++ part.now) session.new start site.new out.new.items
         taken (K.taken sink.new) turns left.new (K.failed sink.old) (K.failed sink.new) }
     ensures turns { K.called sink.new + left.new ≡ K.called sink.old + left.old }
     ensures fewer { left.new ≤ left.old }

@@ -3,8 +3,8 @@ ghost use Rattle.std.specs.Prelude.{IfOk, IfErr, IfSome, IfNone};
 ghost use Rattle.std.specs.Int.{w32, to_be_bytes};
 ghost use Rattle.tokio_util.specs.Codec.LengthField.{default_layout};
 ghost use Rattle.tokio_util.specs.Codec.LengthDelimited.{codec_layout, IsAtHead};
-ghost use Rattle.cue_wire.specs.Frames.{framed, frame_limit, named_length, IsBody};
-ghost use Rattle.cue_wire.specs.Frames.{IsUnfinished, NamesTooMany, Lacks};
+ghost use Rattle.cue_wire.specs.Frames.{frame_of, frame_limit, named_length, IsBody};
+ghost use Rattle.cue_wire.specs.Frames.{IsUnfinished, NamesTooMany, LacksBytes};
 ghost use Rattle.cue_wire.specs.Inner.Pieces.{IsWhole};
 
 use bytes::BytesMut;
@@ -33,7 +33,7 @@ pub fn length_at(bytes: &[u8]) -> Option<usize>
 /// that frame is whole; at least 1.
 pub fn missing(bytes: &[u8]) -> usize
     ensures some { 1 ≤ result }
-    ensures exact { IsUnfinished bytes.now → Lacks bytes.now result }
+    ensures exact { IsUnfinished bytes.now → LacksBytes bytes.now result }
 {
     let whole = length_at(bytes).map_or(4, |len| len.saturating_add(4));
     whole.saturating_sub(bytes.len()).max(1)
@@ -68,7 +68,7 @@ pub fn body_length(bytes: &[u8]) -> Result<Option<usize>, Kind>
 /// `FrameTooLong` where the bytes begin with a length that no frame has.
 pub fn cut_frame(bytes: &[u8]) -> Result<Option<(&[u8], &[u8])>, Kind>
     ensures whole { IfOk result (λ found. IfSome found (λ cut.
-        IsBody cut.0.now × (bytes.now ≡ framed cut.0.now ++ cut.1.now))) }
+        IsBody cut.0.now × (bytes.now ≡ frame_of cut.0.now ++ cut.1.now))) }
     ensures unfinished { IfOk result (λ found. IfNone found (IsUnfinished bytes.now)) }
     ensures long { IfErr result (λ kind. (kind ≡ Kind.FrameTooLong) × NamesTooMany bytes.now) }
 {
@@ -96,7 +96,7 @@ fn codec() -> LengthDelimitedCodec
 /// `FrameTooLong` where the stream begins with a length that no frame has, and `Memory`.
 pub fn next_frame(stream: &mut BytesMut) -> Result<Option<BytesMut>, Kind>
     ensures whole { IfOk result (λ found. IfSome found (λ body.
-        IsBody body.items × (stream.old.items ≡ framed body.items ++ stream.new.items))) }
+        IsBody body.items × (stream.old.items ≡ frame_of body.items ++ stream.new.items))) }
     ensures unfinished { IfOk result (λ found. IfNone found
         ((stream.new.items ≡ stream.old.items) × IsUnfinished stream.new.items)) }
     ensures err { IfErr result (λ kind. (kind ≡ Kind.Memory)

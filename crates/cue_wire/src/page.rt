@@ -53,7 +53,7 @@ impl Page {
 }
 
 impl TextSink for Page {
-    type Halt = Memory;
+    type SinkError = Memory;
 
     ghost use Rattle.cue_wire.specs.Inner.Pages.{page_bytes};
 
@@ -69,6 +69,6 @@ impl TextSink for Page {
             return Ok(());
         }
         self.add(&bytes[..room])?;
-        Err(Memory::beyond(u64::MAX, 1))
+        Err(Memory::too_many(u64::MAX, 1))
     }
 }

@@ -2,7 +2,7 @@ ghost use Rattle.std.specs.Prelude.{◌≡◌, ◌∷◌, ◌++◌, ◌+◌, ◌
 ghost use Rattle.std.specs.Prelude.{vec_capacity, OnOk, OnErr, IsOk, List, ℕ};
 ghost use Rattle.std.specs.Int.{w32, to_be_bytes};
 ghost use Rattle.cue_wire.specs.Frames.{frame_limit};
-ghost use Rattle.cue_wire.specs.Serving.{refusing, IsReply};
+ghost use Rattle.cue_wire.specs.Serving.{refused_reply, IsReply};
 
 use crate::frame::FRAME_LIMIT;
 use cue_replica::{Kind, Memory, Refusal};
@@ -58,7 +58,7 @@ pub fn begin(out: &mut Vec<u8>, len: usize) -> Result<(), Memory>
 ///
 /// `Memory`, and then nothing is added.
 pub fn refuse(out: &mut Vec<u8>, why: Refusal) -> Result<(), Memory>
-    ensures ok { OnOk result (out.new.items ≡ out.old.items ++ refusing why) }
+    ensures ok { OnOk result (out.new.items ≡ out.old.items ++ refused_reply why) }
     ensures err { OnErr result (out.new.items ≡ out.old.items) }
     ensures room { vec_len out.old + SHORT_REPLY ≤ vec_capacity out.old → IsOk result }
 {

@@ -1,6 +1,6 @@
 ghost use Rattle.std.specs.Prelude.{◌≡◌, ◌↔◌, ◌≤◌, ◌++◌, ℕ, List, [], IsTrue, IsErrOf, IfOk, OnOk};
-ghost use Rattle.cue_wire.specs.Frames.{StopsAt, IsUnfinished, Lacks};
-ghost use Rattle.cue_wire.specs.Sessions.{reading, ended, IsReading, Served, standing_after};
+ghost use Rattle.cue_wire.specs.Frames.{StopsAtFrame, IsUnfinished, LacksBytes};
+ghost use Rattle.cue_wire.specs.Sessions.{reading, ended, IsSessionReading, Served, standing_after};
 
 use crate::answer::answer;
 use crate::frame::{missing, next_frame};
@@ -23,11 +23,11 @@ pub struct Session {
 }
 
 impl Model for Session {
-    ghost use Rattle.cue_wire.specs.Sessions.{Standing, standing};
+    ghost use Rattle.cue_wire.specs.Sessions.{Standing, session_standing};
 
     ghost Value = { Standing };
 
-    ghost view = { λ session. standing session.ended session.unread.items };
+    ghost view = { λ session. session_standing session.ended session.unread.items };
 }
 
 impl Session {
@@ -39,11 +39,11 @@ impl Session {
     pub fn new(alloc: Global) -> Result<Session, Memory>
         ensures { IfOk result (λ session. session ≡ reading []) }
     {
-        Ok(Session::begun(alloc))
+        Ok(Session::new_unfed(alloc))
     }
 
     /// A session that was fed nothing, and has wanted no memory yet.
-    pub(crate) fn begun(alloc: Global) -> Session
+    pub(crate) fn new_unfed(alloc: Global) -> Session
         ensures { result ≡ reading [] }
     {
         Session {
@@ -55,7 +55,7 @@ impl Session {
 
     /// Whether the session reads on: no `feed` has answered `FrameTooLong` or `Memory`.
     pub fn is_open(&self) -> bool
-        ensures { IsTrue result ↔ IsReading self.now }
+        ensures { IsTrue result ↔ IsSessionReading self.now }
     {
         !self.ended
     }
@@ -72,7 +72,7 @@ impl Session {
     pub fn missing(&self) -> usize
         ensures some { 1 ≤ result }
         ensures exact { (rest : List ℕ) → self.now ≡ reading rest → IsUnfinished rest
-            → Lacks rest result }
+            → LacksBytes rest result }
     {
         missing(self.unread.as_slice())
     }
@@ -89,7 +89,7 @@ impl Session {
         // The rest kept so far and the piece are the stream. Where the answer is `Memory`, some of
         // its frames were served, and else all that are whole.
         ensures served { (kept : List ℕ) → self.old ≡ reading kept → (rest : List ℕ)
-            × StopsAt result rest × (self.new ≡ standing_after result rest)
+            × StopsAtFrame result rest × (self.new ≡ standing_after result rest)
             × Served (kept ++ piece.now) rest site.old site.new out.old.items out.new.items }
         ensures failed { self.old ≡ ended → IsErrOf result Kind.Failed × (self.new ≡ ended)
             × (site.new ≡ site.old) × (out.new.items ≡ out.old.items) }
@@ -112,7 +112,7 @@ fn serve(
     piece: &[u8],
     out: &mut Vec<u8>,
 ) -> Result<(), Kind>
-    ensures { (rest : List ℕ) × StopsAt result rest × OnOk result (unread.new.items ≡ rest)
+    ensures { (rest : List ℕ) × StopsAtFrame result rest × OnOk result (unread.new.items ≡ rest)
         × Served (unread.old.items ++ piece.now) rest site.old site.new
         out.old.items out.new.items }
 {
@@ -129,7 +129,7 @@ fn serve_frames(
     site: &mut Replica,
     out: &mut Vec<u8>,
 ) -> Result<(), Kind>
-    ensures { (rest : List ℕ) × StopsAt result rest × OnOk result (unread.new.items ≡ rest)
+    ensures { (rest : List ℕ) × StopsAtFrame result rest × OnOk result (unread.new.items ≡ rest)
         × Served unread.old.items rest site.old site.new out.old.items out.new.items }
 {
     while let Some(body) = next_frame(unread)? {

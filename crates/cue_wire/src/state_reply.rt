@@ -3,8 +3,8 @@
 ghost use Rattle.std.specs.Prelude.{◌≡◌, ◌++◌, ◌<◌, ℕ, List, length, OnOk, OnErr};
 ghost use Rattle.cue_replica.specs.Language.{language};
 ghost use Rattle.cue_wire.specs.Frames.{frame_limit};
-ghost use Rattle.cue_wire.specs.Serving.{accepting, IsReply};
-ghost use Rattle.cue_wire.specs.Inner.Pieces.{Extends};
+ghost use Rattle.cue_wire.specs.Serving.{accepted_reply, IsReply};
+ghost use Rattle.cue_wire.specs.Inner.Pieces.{AppendsBytes};
 
 use crate::frame::{FRAME_LIMIT, PIECE};
 use crate::reply::{begin, refuse};
@@ -16,7 +16,7 @@ use cue_replica::{Kind, Memory, Refusal, Replica, StateWriter};
 /// # Errors
 ///
 /// `Memory`, and then nothing is added.
-pub fn tell_state(site: &Replica, out: &mut Vec<u8>) -> Result<(), Memory>
+pub fn add_state_reply(site: &Replica, out: &mut Vec<u8>) -> Result<(), Memory>
     ensures ok { OnOk result ((reply : List ℕ) × IsReply (language.written site.now) reply
         × (out.new.items ≡ out.old.items ++ reply)) }
     ensures err { OnErr result (out.new.items ≡ out.old.items) }
@@ -44,8 +44,8 @@ fn add_state(site: &Replica, len: usize, out: &mut Vec<u8>) -> Result<(), Memory
     requires size { len ≡ length (language.written site.now) }
     requires short { len < frame_limit }
     ensures ok { OnOk result (out.new.items
-        ≡ out.old.items ++ accepting (language.written site.now)) }
-    ensures err { OnErr result (Extends out.old.items out.new.items) }
+        ≡ out.old.items ++ accepted_reply (language.written site.now)) }
+    ensures err { OnErr result (AppendsBytes out.old.items out.new.items) }
 {
     begin(out, len)?;
     let mut writer = site.state_writer()?;
@@ -59,7 +59,7 @@ fn add_state(site: &Replica, len: usize, out: &mut Vec<u8>) -> Result<(), Memory
 /// `Memory`, where some of them may stand there.
 fn add_rest(writer: &mut StateWriter<'_>, out: &mut Vec<u8>) -> Result<(), Memory>
     ensures ok { OnOk result (out.new.items ≡ out.old.items ++ writer.old) }
-    ensures err { OnErr result (Extends out.old.items out.new.items) }
+    ensures err { OnErr result (AppendsBytes out.old.items out.new.items) }
 {
     let mut piece = [0u8; PIECE];
     loop {

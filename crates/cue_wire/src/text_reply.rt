@@ -1,11 +1,11 @@
 //! The reply that tells an answer in a text.
 ghost use Rattle.std.specs.Prelude.{◌≡◌, ◌++◌, ℕ, List, OnOk, OnErr};
 ghost use Rattle.cue_answer.specs.Answers.{of_text};
-ghost use Rattle.cue_wire.specs.Serving.{IsAnswered, IsReply, told};
+ghost use Rattle.cue_wire.specs.Serving.{IsRequestAnswered, IsReply, told_bytes};
 
 use crate::page::Page;
 use crate::reply::{accept, refuse};
-use cue_answer::{Status, TextQuestion, tell_answer};
+use cue_answer::{Status, TextQuestion, write_answer};
 use cue_replica::{Kind, Memory, Refusal, Replica};
 use std::alloc::Global;
 
@@ -15,18 +15,18 @@ use std::alloc::Global;
 /// # Errors
 ///
 /// `Memory`, and then nothing is added.
-pub fn tell_text(
+pub fn add_text_reply(
     alloc: Global,
     question: TextQuestion,
     site: &Replica,
     out: &mut Vec<u8>,
 ) -> Result<(), Memory>
-    ensures ok { OnOk result ((reply : List ℕ) × IsAnswered (of_text question) site.now reply
+    ensures ok { OnOk result ((reply : List ℕ) × IsRequestAnswered (of_text question) site.now reply
         × (out.new.items ≡ out.old.items ++ reply)) }
     ensures err { OnErr result (out.new.items ≡ out.old.items) }
 {
     let mut page = Page::new(alloc);
-    match tell_answer(alloc, question, site, &mut page) {
+    match write_answer(alloc, question, site, &mut page) {
         Ok(status) => accept_answer(question, status, page.bytes(), out),
         Err(_) if page.is_full() => refuse(out, Refusal::at(Kind::ReplyTooLong, 0)),
         Err(memory) => Err(memory),
@@ -40,7 +40,7 @@ fn accept_answer(
     bytes: &[u8],
     out: &mut Vec<u8>,
 ) -> Result<(), Memory>
-    ensures ok { OnOk result ((reply : List ℕ) × IsReply (told (of_text question) bytes.now status) reply
+    ensures ok { OnOk result ((reply : List ℕ) × IsReply (told_bytes (of_text question) bytes.now status) reply
         × (out.new.items ≡ out.old.items ++ reply)) }
     ensures err { OnErr result (out.new.items ≡ out.old.items) }
 {

@@ -4,7 +4,7 @@ use cue_replica::{Kind, Memory};
 use std::alloc::AllocError;
 
 /// How a want of memory is told.
-pub fn want(_memory: Memory) -> Kind
+pub fn memory_kind(_memory: Memory) -> Kind
     ensures { result ≡ Kind.Memory }
 {
     Kind::Memory
@@ -14,5 +14,5 @@ pub fn want(_memory: Memory) -> Kind
 pub fn want_of(refused: AllocError) -> Kind
     ensures { result ≡ Kind.Memory }
 {
-    want(Memory::from(refused))
+    memory_kind(Memory::from(refused))
 }

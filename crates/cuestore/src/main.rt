@@ -2,7 +2,7 @@
 #![tactic(auto)]
 
 use cue_command::run;
-use cue_program::Outlet;
+use cue_program::Output;
 use std::io::BufWriter;
 use std::process::ExitCode;
 
@@ -11,12 +11,12 @@ const ROOM: usize = 65536;
 
 fn main(mut rt: HostRuntime) -> ExitCode {
     let mut input = rt.stdin();
-    let mut faults = Outlet::new(rt.stderr());
+    let mut faults = Output::new(rt.stderr());
     let status = match BufWriter::with_capacity(rt.alloc(), ROOM, rt.stdout()) {
-        Ok(out) => run(&mut rt, &mut input, &mut Outlet::new(out), &mut faults),
+        Ok(out) => run(&mut rt, &mut input, &mut Output::new(out), &mut faults),
         // Without memory for that room each piece is written at once.
         Err(_) => {
-            let mut out = Outlet::new(rt.stdout());
+            let mut out = Output::new(rt.stdout());
             run(&mut rt, &mut input, &mut out, &mut faults)
         }
     };

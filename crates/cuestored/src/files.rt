@@ -1,8 +1,8 @@
 use anyhow::Result;
-use cue_journal::{Batch, Journal, Pair, Unread, read_pieces, recover};
+use cue_journal::{Batch, Journal, JournalPair, Unread, read_pieces, recover};
 use cue_replica::Replica;
-use cue_service::{Site, SourceStanding, Standing, Token, add_entries, snapshot_in};
-use cue_settings::{Stop, Words, grows};
+use cue_service::{AccessToken, Site, SourceStanding, Standing, add_entries, snapshot_in};
+use cue_settings::{Settings, SettingsError, grows};
 use log::{Log, info};
 use sqlite_disk::{Disk, Files};
 use sqlite_std_file::{FileFrom, OpenError, Unknown, open};
@@ -17,7 +17,7 @@ use std::{fs, io};
 type File = FileFrom<Unknown>;
 
 /// The word in a file, without the line break behind it.
-pub fn token_in(rt: &HostRuntime, path: &str) -> Result<Token> {
+pub fn token_in(rt: &HostRuntime, path: &str) -> Result<AccessToken> {
     let alloc = rt.alloc();
     let mut bytes = Vec::new(alloc);
     let mut file = on_file(alloc, "open", path, fs::File::open(rt, path))?;
@@ -29,9 +29,9 @@ pub fn token_in(rt: &HostRuntime, path: &str) -> Result<Token> {
         bytes.pop();
     }
     if bytes.is_empty() {
-        return Err(Stop::Token(String::from_str(alloc, path)?).into());
+        return Err(SettingsError::Token(String::from_str(alloc, path)?).into());
     }
-    Ok(Token { bytes })
+    Ok(AccessToken { bytes })
 }
 
 /// What an operation on a file gave, or that it failed.
@@ -43,12 +43,12 @@ fn on_file<T>(
 ) -> Result<T> {
     match answer {
         Ok(value) => Ok(value),
-        Err(error) => Err(Stop::system(alloc, operation, file, error).into()),
+        Err(error) => Err(SettingsError::system(alloc, operation, file, error).into()),
     }
 }
 
 /// The folder that a file or folder lies in.
-fn above(path: &str) -> &str {
+fn parent_folder(path: &str) -> &str {
     match path.trim_end_matches('/').rsplit_once('/') {
         Some(("", _)) => "/",
         Some((above, _)) => above,
@@ -66,7 +66,7 @@ fn make_folder(rt: &HostRuntime, path: &str) -> Result<()> {
         Err(error) if error.kind() == ErrorKind::AlreadyExists => return Ok(()),
         made => on_file(alloc, "mkdir", path, made)?,
     }
-    let above = above(path);
+    let above = parent_folder(path);
     let folder = on_file(alloc, "open", above, fs::File::open(rt, above))?;
     on_file(alloc, "sync", above, folder.sync_all())
 }
@@ -94,20 +94,20 @@ struct Recovered {
 /// What a file brings, if it can be read as it was left.
 fn recover_from(alloc: Global, path: &str, mut disk: File) -> Result<Recovered> {
     if !disk.may_be_used() {
-        return Err(Stop::Unusable(String::from_str(alloc, path)?).into());
+        return Err(SettingsError::Unusable(String::from_str(alloc, path)?).into());
     }
     match recover(alloc, &mut disk) {
         Ok((end, entries)) => Ok(Recovered { disk, end, entries }),
-        Err(Unread::Damaged(at)) => Err(Stop::damaged(alloc, path, at).into()),
-        Err(Unread::System(error)) => Err(Stop::system(alloc, "read", path, error).into()),
+        Err(Unread::Damaged(at)) => Err(SettingsError::damaged(alloc, path, at).into()),
+        Err(Unread::System(error)) => Err(SettingsError::system(alloc, "read", path, error).into()),
     }
 }
 
 /// A table that takes in the entries of both files.
 fn board_of(alloc: Global, first: &[Vec<u8>], second: &[Vec<u8>]) -> Result<Replica> {
     let mut board = Replica::new(alloc);
-    add_entries(&mut board, first).map_err(Stop::of_entry)?;
-    add_entries(&mut board, second).map_err(Stop::of_entry)?;
+    add_entries(&mut board, first).map_err(SettingsError::of_entry)?;
+    add_entries(&mut board, second).map_err(SettingsError::of_entry)?;
     Ok(board)
 }
 
@@ -116,10 +116,12 @@ fn open_files(rt: &HostRuntime, path: &str) -> Result<Files<File>> {
     let alloc = rt.alloc();
     match open(rt, path, Unknown) {
         Ok(files) => Ok(files),
-        Err(OpenError::Io(error)) => Err(Stop::system(alloc, "open", path, error).into()),
-        Err(OpenError::OutOfMemory) => Err(Stop::OutOfMemory.into()),
-        Err(OpenError::Busy) => Err(Stop::Busy(String::from_str(alloc, path)?).into()),
-        Err(OpenError::HotJournal) => Err(Stop::Unusable(String::from_str(alloc, path)?).into()),
+        Err(OpenError::Io(error)) => Err(SettingsError::system(alloc, "open", path, error).into()),
+        Err(OpenError::OutOfMemory) => Err(SettingsError::OutOfMemory.into()),
+        Err(OpenError::Busy) => Err(SettingsError::Busy(String::from_str(alloc, path)?).into()),
+        Err(OpenError::HotJournal) => Err(SettingsError::Unusable(String::from_str(
+            alloc, path,
+        )?).into()),
     }
 }
 
@@ -132,7 +134,7 @@ fn bytes_of(rt: &HostRuntime, path: &str) -> Result<Vec<u8>> {
             on_file(alloc, "read", path, file.read_to_end(&mut bytes))?;
         }
         Err(error) if error.kind() == ErrorKind::NotFound => {}
-        Err(error) => return Err(Stop::system(alloc, "open", path, error).into()),
+        Err(error) => return Err(SettingsError::system(alloc, "open", path, error).into()),
     }
     Ok(bytes)
 }
@@ -147,7 +149,7 @@ fn is_old(rt: &HostRuntime, path: &str) -> Result<bool> {
             Ok(count == 1 && first[0] <= 1)
         }
         Err(error) if error.kind() == ErrorKind::NotFound => Ok(false),
-        Err(error) => Err(Stop::system(alloc, "open", path, error).into()),
+        Err(error) => Err(SettingsError::system(alloc, "open", path, error).into()),
     }
 }
 
@@ -184,7 +186,7 @@ fn bring_over(
     rt: &HostRuntime,
     folder: &str,
     path: &str,
-    files: &mut Pair<File>,
+    files: &mut JournalPair<File>,
     board: &mut Replica,
 ) -> Result<()> {
     let alloc = rt.alloc();
@@ -194,12 +196,12 @@ fn bring_over(
         return Ok(());
     }
     let (entries, _) = read_pieces(alloc, &bytes)?;
-    add_entries(board, &entries).map_err(Stop::of_entry)?;
+    add_entries(board, &entries).map_err(SettingsError::of_entry)?;
     let mut batch = Batch::new(alloc);
     for entry in &entries {
         if let Some((first, rest)) = entry.split_first() {
             if batch.push(*first, rest).is_err() {
-                return Err(Stop::OutOfMemory.into());
+                return Err(SettingsError::OutOfMemory.into());
             }
         }
     }
@@ -222,7 +224,7 @@ fn make_private(rt: &HostRuntime, path: &str) -> Result<()> {
         Err(error) if error.kind() == ErrorKind::AlreadyExists => {
             on_file(alloc, "chmod", path, fs::set_permissions(rt, path, mode))
         }
-        Err(error) => Err(Stop::system(alloc, "open", path, error).into()),
+        Err(error) => Err(SettingsError::system(alloc, "open", path, error).into()),
     }
 }
 
@@ -230,8 +232,8 @@ fn make_private(rt: &HostRuntime, path: &str) -> Result<()> {
 pub fn open_site<L: Log>(
     rt: &HostRuntime,
     log: &L,
-    words: &Words,
-    token: Option<Token>,
+    words: &Settings,
+    token: Option<AccessToken>,
 ) -> Result<Site<File>> {
     let alloc = rt.alloc();
     make_folders(rt, words.data)?;
@@ -254,13 +256,13 @@ pub fn open_site<L: Log>(
     let mut board = board_of(alloc, &spare.entries, &growing.entries)?;
     info!(log; "{} entries of {} bytes", spare.entries.len() + growing.entries.len(), board.state_size());
     let snapshot = snapshot_in(&growing.entries);
-    let mut files = Pair::new(
+    let mut files = JournalPair::new(
         Journal::new(growing.disk, growing.end),
         Journal::new(spare.disk, spare.end),
     );
     bring_over(rt, words.data, path.as_str(), &mut files, &mut board)?;
     bring_over(rt, words.data, beside.as_str(), &mut files, &mut board)?;
-    let standing = standing(alloc, words)?;
+    let standing = new_standing(alloc, words)?;
     Ok(Site::new(
         alloc,
         files,
@@ -279,7 +281,7 @@ fn run_number(rt: &HostRuntime) -> Result<u64> {
     Ok(u64::from_be_bytes(bytes))
 }
 
-fn standing(alloc: Global, words: &Words) -> Result<Standing> {
+fn new_standing(alloc: Global, words: &Settings) -> Result<Standing> {
     let mut sources = Vec::new(alloc);
     for peer in &words.peers {
         sources.push(SourceStanding::new(String::from_str(alloc, peer)?))?;

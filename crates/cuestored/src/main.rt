@@ -8,9 +8,9 @@ use crate::files::{open_site, token_in};
 use anyhow::Result;
 use clap::error::Error;
 use cue_doors::Guarded;
-use cue_http::{Ended, serve};
-use cue_service::{Shown, Token};
-use cue_settings::{Stop, Words, command, may_listen, words_of};
+use cue_http::{LoopError, serve};
+use cue_service::{AccessToken, Shown};
+use cue_settings::{Settings, SettingsError, command, may_listen, words_of};
 use log::sink::Console;
 use log::{Level, Log, Logged, error, info};
 use mio::net::TcpListener;
@@ -19,7 +19,7 @@ use std::net::SocketAddr;
 use std::process::ExitCode;
 
 /// Serves until a round does not stand.
-fn run(rt: &HostRuntime, words: &Words) -> Result<()> {
+fn run(rt: &HostRuntime, words: &Settings) -> Result<()> {
     let log = Logged::new(rt, Level::Info, Console(rt));
     let listen = words.listen(rt)?;
     let token = match words.token_file {
@@ -27,7 +27,7 @@ fn run(rt: &HostRuntime, words: &Words) -> Result<()> {
         None => None,
     };
     if !may_listen(token.is_some(), listen.ip().is_loopback()) {
-        return Err(Stop::OpenToAll.into());
+        return Err(SettingsError::OpenToAll.into());
     }
     serve_at(rt, &log, words, listen, token)
 }
@@ -36,16 +36,21 @@ fn run(rt: &HostRuntime, words: &Words) -> Result<()> {
 fn serve_at<L: Log>(
     rt: &HostRuntime,
     log: &L,
-    words: &Words,
+    words: &Settings,
     listen: SocketAddr,
-    token: Option<Token>,
+    token: Option<AccessToken>,
 ) -> Result<()> {
     let sources = words.sources(rt)?;
     let site = open_site(rt, log, words, token)?;
     let doors = words.doors(rt.alloc(), listen)?;
     let listener = match TcpListener::bind(rt, listen) {
         Ok(listener) => listener,
-        Err(error) => return Err(Stop::system(rt.alloc(), "listen on", words.listen, error).into()),
+        Err(error) => return Err(SettingsError::system(
+            rt.alloc(),
+            "listen on",
+            words.listen,
+            error,
+        ).into()),
     };
     let address = listener.local_addr()?;
     info!(log; "listening on http://{address}");
@@ -65,16 +70,16 @@ fn serve_at<L: Log>(
 }
 
 /// What ended a site over these files.
-fn stop_of(rt: &HostRuntime, words: &Words, ended: Ended) -> Result<Stop> {
+fn stop_of(rt: &HostRuntime, words: &Settings, ended: LoopError) -> Result<SettingsError> {
     let alloc = rt.alloc();
     Ok(match ended {
-        Ended::Unsettled(error) => {
+        LoopError::Unsettled(error) => {
             let data = words.data;
             let files = format!(in alloc; "{data}/journal or journal-wal")?;
-            Stop::system(alloc, "write", files.as_str(), error)
+            SettingsError::system(alloc, "write", files.as_str(), error)
         }
-        Ended::System(call, error) => Stop::system(alloc, call, words.listen, error),
-        Ended::OutOfMemory => Stop::OutOfMemory,
+        LoopError::System(call, error) => SettingsError::system(alloc, call, words.listen, error),
+        LoopError::OutOfMemory => SettingsError::OutOfMemory,
     })
 }
 

@@ -1,6 +1,6 @@
 use crate::layers::run_layers;
 use anyhow::{Context, anyhow};
-use cue_program::{Question, Stop, answer_for, merge_into};
+use cue_program::{RunError, SiteQuestion, answer_for, merge_into};
 use std::alloc::Global;
 use std::fs;
 
@@ -71,7 +71,7 @@ pub fn run(rt: &HostRuntime, folder: &str, command: &str, last: u8) -> anyhow::R
         ("cmp", [one, other]) => compared(rt, folder, one, other),
         ("cuestore", [word, files @ ..]) => {
             let input = input_of(rt, folder, input)?;
-            let printed = told(rt, folder, word, files, &input)?;
+            let printed = run_command(rt, folder, word, files, &input)?;
             printed_to(rt, folder, output, printed)
         }
         ("cuelayers", arguments) => {
@@ -99,13 +99,18 @@ fn printed_to(
     printed: Printed,
 ) -> anyhow::Result<Printed> {
     match output {
-        Some(name) => kept(rt, folder, name, printed),
+        Some(name) => keep_output(rt, folder, name, printed),
         None => Ok(printed),
     }
 }
 
 /// Writes what a command printed to a file of the folder, so that nothing of it is seen.
-fn kept(rt: &HostRuntime, folder: &str, name: &str, printed: Printed) -> anyhow::Result<Printed> {
+fn keep_output(
+    rt: &HostRuntime,
+    folder: &str,
+    name: &str,
+    printed: Printed,
+) -> anyhow::Result<Printed> {
     let path = path_of(rt.alloc(), folder, name)?;
     fs::write(rt, path.as_str(), printed.bytes.as_slice())?;
     Ok(Printed {
@@ -134,7 +139,7 @@ fn compared(rt: &HostRuntime, folder: &str, one: &str, other: &str) -> anyhow::R
 }
 
 /// What `cuestore` prints for a word and files of a folder.
-fn told(
+fn run_command(
     rt: &HostRuntime,
     folder: &str,
     word: &str,
@@ -155,15 +160,15 @@ fn told(
                 status: answer.status.code(),
                 bytes: answer.bytes,
             }),
-            Err(stop) => stopped(rt.alloc(), stop),
+            Err(stop) => print_stop(rt.alloc(), stop),
         },
-        (None, Some((out, files))) if word == "merge" => merged(rt, out, files, &mut input),
+        (None, Some((out, files))) if word == "merge" => run_merge(rt, out, files, &mut input),
         _ => Err(anyhow!("no word of cuestore: {word}")),
     }
 }
 
 /// What `cuestore` prints that merges files of a folder.
-fn merged(
+fn run_merge(
     mut rt: &HostRuntime,
     out: &str,
     files: &[&str],
@@ -172,30 +177,30 @@ fn merged(
     let alloc = rt.alloc();
     match merge_into(&mut rt, out, files, input) {
         Ok(()) => Ok(Printed::nothing(alloc)),
-        Err(stop) => stopped(alloc, stop),
+        Err(stop) => print_stop(alloc, stop),
     }
 }
 
 /// What a word of `cuestore` asks, where it asks something.
-fn question_of(word: &str) -> Option<Question> {
+fn question_of(word: &str) -> Option<SiteQuestion> {
     match word {
-        "export" => Some(Question::Export),
-        "report" => Some(Question::Report),
-        "print" => Some(Question::Print),
-        "state" => Some(Question::State),
+        "export" => Some(SiteQuestion::Export),
+        "report" => Some(SiteQuestion::Report),
+        "print" => Some(SiteQuestion::Print),
+        "state" => Some(SiteQuestion::State),
         _ => None,
     }
 }
 
 /// What is printed where a run is stopped before it has an answer.
-fn stopped(alloc: Global, stop: Stop) -> anyhow::Result<Printed> {
+fn print_stop(alloc: Global, stop: RunError) -> anyhow::Result<Printed> {
     Ok(match stop {
-        Stop::Device => Printed::text(format!(in alloc; "device fault\n")?, 4),
-        Stop::Refused(kind) => {
+        RunError::Device => Printed::text(format!(in alloc; "device fault\n")?, 4),
+        RunError::Refused(kind) => {
             let (number, name) = (kind.number(), kind.name());
             Printed::text(format!(in alloc; "refused {number} {name}\n")?, 1)
         }
-        Stop::RefusedInput(why, input) => {
+        RunError::RefusedInput(why, input) => {
             let (number, name, place) = (why.kind.number(), why.kind.name(), why.place);
             let line = format!(in alloc; "refused {number} {name} at {place} in {input}\n")?;
             Printed::text(line, 1)

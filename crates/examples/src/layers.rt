@@ -1,7 +1,7 @@
 //! What `cuelayers` prints in a session.
 use crate::command::{Printed, path_of};
 use cue_layers_command::act;
-use cue_program::Outlet;
+use cue_program::Output;
 use std::alloc::Global;
 
 /// Runs `cuelayers` with these arguments, on files of a folder.
@@ -12,9 +12,9 @@ pub fn run_layers(
     mut input: &[u8],
 ) -> anyhow::Result<Printed> {
     let alloc = rt.alloc();
-    let words = placed(alloc, folder, arguments)?;
-    let mut out = Outlet::new(Vec::new(alloc));
-    let mut faults = Outlet::new(Vec::new(alloc));
+    let words = place_arguments(alloc, folder, arguments)?;
+    let mut out = Output::new(Vec::new(alloc));
+    let mut faults = Output::new(Vec::new(alloc));
     let status = act(&mut rt, &words, &mut input, &mut out, &mut faults);
     Ok(Printed {
         bytes: out.into_inner(),
@@ -23,7 +23,7 @@ pub fn run_layers(
 }
 
 /// The arguments, with the folder in front of each file.
-fn placed(alloc: Global, folder: &str, arguments: &[&str]) -> anyhow::Result<Vec<String>> {
+fn place_arguments(alloc: Global, folder: &str, arguments: &[&str]) -> anyhow::Result<Vec<String>> {
     let mut words = Vec::new(alloc);
     let Some((command, rest)) = arguments.split_first() else {
         return Ok(words);

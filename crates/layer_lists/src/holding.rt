@@ -1,6 +1,6 @@
 //! What a site holds in the end, against what it must hold.
 use anyhow::{Context, anyhow};
-use cue_answer::{Question, answer_to, printed};
+use cue_answer::{SiteQuestion, answer_to, to_printed};
 use cue_layers::{Layer, LayerKind, Layers, LayersRefusal, Replica};
 use cue_layers_why::{why, why_lines};
 use cue_places::read_path;
@@ -8,10 +8,10 @@ use serde_json::Value;
 use std::alloc::Global;
 
 /// What is asked of a view, with its name in lists.
-const QUESTIONS: [(Question, &str); 3] = [
-    (Question::Export, "export"),
-    (Question::Report, "report"),
-    (Question::Print, "print"),
+const QUESTIONS: [(SiteQuestion, &str); 3] = [
+    (SiteQuestion::Export, "export"),
+    (SiteQuestion::Report, "report"),
+    (SiteQuestion::Print, "print"),
 ];
 
 /// What of a site differs from what it must hold, in words.
@@ -89,7 +89,7 @@ fn answers(
     alloc: Global,
     site: &Layers,
     limit: u64,
-    question: Question,
+    question: SiteQuestion,
     owed: &[Value],
 ) -> anyhow::Result<bool> {
     let [status, output] = owed else {
@@ -112,11 +112,15 @@ fn answers(
 }
 
 /// What is printed of a view, and the exit status.
-fn answer_of(alloc: Global, question: Question, view: &Replica) -> anyhow::Result<(u8, Vec<u8>)> {
+fn answer_of(
+    alloc: Global,
+    question: SiteQuestion,
+    view: &Replica,
+) -> anyhow::Result<(u8, Vec<u8>)> {
     let answer = answer_to(alloc, question, view)
         .ok()
         .context("out of memory")?;
-    let shown = printed(question, answer).ok().context("out of memory")?;
+    let shown = to_printed(question, answer).ok().context("out of memory")?;
     Ok((shown.status.code(), shown.bytes))
 }
 

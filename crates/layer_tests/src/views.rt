@@ -6,7 +6,7 @@ use cue_policies::{
     whole_view,
 };
 use cue_replica::{Refusal, Replica};
-use cue_report::tell_export;
+use cue_report::write_export;
 use cue_row::Row;
 use cue_table::Table;
 use std::alloc::Global;
@@ -39,7 +39,7 @@ fn exported(alloc: Global, layers: &[&str], policies: &[&str]) -> Result<Option<
         Err(ViewError::TooLarge) => return Ok(None),
     };
     let mut text = String::new(alloc);
-    tell_export(alloc, &view, &mut text)?;
+    write_export(alloc, &view, &mut text)?;
     Ok(Some(text))
 }
 

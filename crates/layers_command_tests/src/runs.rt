@@ -1,7 +1,7 @@
 //! Runs over arguments and an input: what they write, and how they end.
 use crate::desk::Desk;
 use cue_layers_command::act;
-use cue_program::Outlet;
+use cue_program::Output;
 use std::alloc::Global;
 use std::test::Fail;
 
@@ -20,8 +20,8 @@ fn owned(alloc: Global, words: &[&str]) -> Result<Vec<String>, Fail> {
 /// The run over these arguments and this input: the status, and what it writes. No contract says
 /// what that is, so that the proof of a caller is short.
 fn acted(desk: &mut Desk, words: &[String], mut input: &[u8]) -> (u8, Vec<u8>, Vec<u8>) {
-    let mut out = Outlet::new(Vec::new(desk.alloc()));
-    let mut faults = Outlet::new(Vec::new(desk.alloc()));
+    let mut out = Output::new(Vec::new(desk.alloc()));
+    let mut faults = Output::new(Vec::new(desk.alloc()));
     let status = act(desk, words, &mut input, &mut out, &mut faults);
     (status, out.into_inner(), faults.into_inner())
 }

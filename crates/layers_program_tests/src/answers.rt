@@ -1,5 +1,5 @@
 use crate::desk::Desk;
-use cue_layers_program::{LayerKind, LayersStop, Question, list, remove, show, view_of};
+use cue_layers_program::{LayerKind, LayersStop, SiteQuestion, list, remove, show, view_of};
 use cue_program::answer_to;
 use std::alloc::Global;
 use std::test::Fail;
@@ -7,7 +7,7 @@ use std::test::Fail;
 /// Whether the view of files answers a question by this text.
 fn answers(
     desk: &Desk,
-    question: Question,
+    question: SiteQuestion,
     files: &[&str],
     text: &str,
 ) -> Result<bool, LayersStop> {
@@ -22,12 +22,12 @@ fn answers(
 
 /// Whether the view of files is exported so.
 pub fn exports(desk: &Desk, files: &[&str], text: &str) -> Result<bool, LayersStop> {
-    answers(desk, Question::Export, files, text)
+    answers(desk, SiteQuestion::Export, files, text)
 }
 
 /// Whether the view of files is reported so.
 pub fn reports(desk: &Desk, files: &[&str], text: &str) -> Result<bool, LayersStop> {
-    answers(desk, Question::Report, files, text)
+    answers(desk, SiteQuestion::Report, files, text)
 }
 
 /// The canonical text of what a layer of the map says.

@@ -3,7 +3,7 @@ ghost use Rattle.std.specs.Prelude.{◌<◌, vec_len, IfSome};
 
 use cue_device::{Fault, Reader};
 use cue_layers_program::{LayerKind, LayersStop, put};
-use cue_program::{Form, Shelf, Stop, Uncreated};
+use cue_program::{CreateError, FileForm, FileSystem, RunError};
 use std::alloc::Global;
 use std::io::Cursor;
 
@@ -84,7 +84,7 @@ fn append(entry: &mut Entry, bytes: &[u8]) -> Result<(), Fault> {
     entry.bytes.extend_from_slice(bytes).map_err(|_| Fault)
 }
 
-impl Shelf for Desk {
+impl FileSystem for Desk {
     type Opened = Reader<Cursor<Vec<u8>>>;
 
     type Draft = String;
@@ -105,29 +105,29 @@ impl Shelf for Desk {
         }
     }
 
-    fn look_at(&mut self, name: &str) -> Result<Form, Fault> {
+    fn look_at(&mut self, name: &str) -> Result<FileForm, Fault> {
         match self.find(name) {
-            Some(_) => Ok(Form::File),
-            None => Ok(Form::Nothing),
+            Some(_) => Ok(FileForm::File),
+            None => Ok(FileForm::Nothing),
         }
     }
 
-    fn look_behind(&mut self, _name: &str) -> Result<Form, Fault> {
+    fn look_behind(&mut self, _name: &str) -> Result<FileForm, Fault> {
         Err(Fault)
     }
 
-    fn follow(&mut self, _alloc: Global, _name: &str) -> Result<String, Stop> {
-        Err(Stop::Device)
+    fn follow(&mut self, _alloc: Global, _name: &str) -> Result<String, RunError> {
+        Err(RunError::Device)
     }
 
-    fn create(&mut self, place: &str) -> Result<String, Uncreated> {
+    fn create(&mut self, place: &str) -> Result<String, CreateError> {
         if self.find(place).is_some() {
-            return Err(Uncreated::Taken);
+            return Err(CreateError::Taken);
         }
         self.made = self.made.saturating_add(1);
         match (self.add(place, b""), String::from_str(self.alloc, place)) {
             (Ok(()), Ok(name)) => Ok(name),
-            _ => Err(Uncreated::Fault),
+            _ => Err(CreateError::Fault),
         }
     }
 

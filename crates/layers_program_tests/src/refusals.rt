@@ -1,6 +1,6 @@
 use crate::desk::Desk;
 use cue_layers_program::{
-    LayerKind, LayersRefusal, LayersStop, Refusal, joined, merge, put, view_of,
+    LayerKind, LayersRefusal, LayersStop, Refusal, join_files, merge, put, view_of,
 };
 use cue_replica::Kind;
 use std::test::Fail;
@@ -63,11 +63,11 @@ fn files_that_are_joined_are_refused_in_their_order(rt: HostRuntime) -> Result<(
         Err(LayersStop::RefusedInput(LayersRefusal::NotLayers, 1))
     );
     assert_eq!(rt;
-        joined(&desk, &["map", "map", "state"]).err(),
+        join_files(&desk, &["map", "map", "state"]).err(),
         Some(refused(Kind::NotState, 0, 3))
     );
     assert_eq!(rt;
-        joined(&desk, &["map", "none"]).err(),
+        join_files(&desk, &["map", "none"]).err(),
         Some(LayersStop::Device)
     );
     assert_eq!(rt; desk.made, 1);

@@ -1,6 +1,6 @@
 //! What an export comes to.
 use crate::sample::{Known, LACKING, Made, WHOLE, is, table};
-use cue_report::{Export, export, lines, tell_export};
+use cue_report::{Export, export, lines, write_export};
 use cue_row::Row;
 use cue_table::Table;
 use std::alloc::Global;
@@ -23,7 +23,7 @@ fn export_listed(alloc: Global, table: &Table<Row>) -> Made<String> {
 /// The export of a table, told as text.
 fn export_written(alloc: Global, table: &Table<Row>) -> Made<String> {
     let mut text = String::new(alloc);
-    tell_export(alloc, table, &mut text)?;
+    write_export(alloc, table, &mut text)?;
     Ok(text)
 }
 

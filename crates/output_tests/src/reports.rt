@@ -1,7 +1,8 @@
 //! What stands in the way of an export, as lines.
 use crate::sample::{Known, LACKING, Made, WHOLE, is, path, steps, table};
 use cue_report::{
-    Conflict, Gap, Place, conflicts, incomplete, lines, path_text, tell_conflicts, tell_gaps,
+    Conflict, Gap, ReportPlace, conflicts, incomplete, lines, path_text, write_conflicts,
+    write_gaps,
 };
 use cue_row::Row;
 use cue_table::Table;
@@ -26,8 +27,8 @@ fn told(alloc: Global, conflicts: Made<Vec<Conflict>>, gaps: Made<Vec<Gap>>) -> 
 /// The lines of the conflicts of a table, and behind them those of its gaps.
 fn report_written(alloc: Global, table: &Table<Row>) -> Made<String> {
     let mut text = String::new(alloc);
-    tell_conflicts(alloc, table, &mut text)?;
-    tell_gaps(alloc, table, &mut text)?;
+    write_conflicts(alloc, table, &mut text)?;
+    write_gaps(alloc, table, &mut text)?;
     Ok(text)
 }
 
@@ -56,20 +57,20 @@ fn tables_are_reported(rt: HostRuntime) -> Result<(), Fail> {
 }
 
 /// The text of the path that a word tells.
-fn path_told(alloc: Global, word: &str) -> Made<String> {
+fn write_path(alloc: Global, word: &str) -> Made<String> {
     path_text(alloc, &path(alloc, word)?)
 }
 
 /// The text of the place that a word tells.
-fn place_told(alloc: Global, word: &str) -> Made<String> {
-    Place::new(steps(alloc, word)?).to_text(alloc)
+fn write_place(alloc: Global, word: &str) -> Made<String> {
+    ReportPlace::new(steps(alloc, word)?).to_text(alloc)
 }
 
 #[test]
 fn paths_are_told_step_by_step(rt: HostRuntime) -> Result<(), Fail> {
     let alloc = rt.alloc();
-    assert!(rt; is(path_told(alloc, ""), ".")?);
-    assert!(rt; is(path_told(alloc, "a1b"), "a.1.b")?);
-    assert!(rt; is(place_told(alloc, "a1b"), "a.1.b")?);
+    assert!(rt; is(write_path(alloc, ""), ".")?);
+    assert!(rt; is(write_path(alloc, "a1b"), "a.1.b")?);
+    assert!(rt; is(write_place(alloc, "a1b"), "a.1.b")?);
     Ok(())
 }

@@ -2,7 +2,7 @@
 use Level::{Given, Optional, Required};
 use Place::{Anything, Integer, List, Struct};
 use cue_lattice::{Memory, Text};
-use cue_row::{Labels, Level, Path, Row, Step};
+use cue_row::{LabelSet, Level, Path, Row, Step};
 use cue_table::Table;
 use std::alloc::Global;
 
@@ -59,7 +59,7 @@ pub fn path(alloc: Global, word: &str) -> Made<Path> {
 fn row(alloc: Global, level: Level, place: Place) -> Made<Row> {
     match place {
         Anything => Ok(Row::of_anything(level)),
-        Struct => Row::of_struct(alloc, level, Labels::all(alloc)),
+        Struct => Row::of_struct(alloc, level, LabelSet::all(alloc)),
         List(least) => Row::of_list(alloc, level, least, None),
         Integer(number) => Ok(Row::of_integer(level, number)),
     }

@@ -4,7 +4,7 @@ ghost use Rattle.std.specs.Prelude.{Some, string_bytes};
 use crate::sample::{Known, LACKING, Made, WHOLE, table};
 use cue_device::TextSink;
 use cue_lattice::Memory;
-use cue_report::{tell_conflicts, tell_export, tell_gaps};
+use cue_report::{write_conflicts, write_export, write_gaps};
 use std::alloc::Global;
 use std::test::Fail;
 
@@ -29,7 +29,7 @@ impl From<Memory> for Stop {
 }
 
 impl TextSink for Room {
-    type Halt = Stop;
+    type SinkError = Stop;
 
     ghost taken = { λ room. Some (string_bytes room.text) };
 
@@ -53,26 +53,26 @@ fn room_of(alloc: Global, left: usize) -> Room {
 }
 
 /// Whether the conflicts of these places were told to so many bytes, and what those have.
-fn conflicts_told(alloc: Global, places: &[Known], left: usize) -> Made<(bool, String)> {
+fn write_conflicts_to(alloc: Global, places: &[Known], left: usize) -> Made<(bool, String)> {
     let table = table(alloc, places)?;
     let mut out = room_of(alloc, left);
-    let whole = tell_conflicts(alloc, &table, &mut out).is_ok();
+    let whole = write_conflicts(alloc, &table, &mut out).is_ok();
     Ok((whole, out.text))
 }
 
 /// The same of gaps.
-fn gaps_told(alloc: Global, places: &[Known], left: usize) -> Made<(bool, String)> {
+fn write_gaps_to(alloc: Global, places: &[Known], left: usize) -> Made<(bool, String)> {
     let table = table(alloc, places)?;
     let mut out = room_of(alloc, left);
-    let whole = tell_gaps(alloc, &table, &mut out).is_ok();
+    let whole = write_gaps(alloc, &table, &mut out).is_ok();
     Ok((whole, out.text))
 }
 
 /// The same of an export.
-fn export_told(alloc: Global, places: &[Known], left: usize) -> Made<(bool, String)> {
+fn write_export_to(alloc: Global, places: &[Known], left: usize) -> Made<(bool, String)> {
     let table = table(alloc, places)?;
     let mut out = room_of(alloc, left);
-    let whole = tell_export(alloc, &table, &mut out).is_ok();
+    let whole = write_export(alloc, &table, &mut out).is_ok();
     Ok((whole, out.text))
 }
 
@@ -87,13 +87,13 @@ fn conflicts_are_told_to_a_sink(rt: HostRuntime) -> Result<(), Fail> {
     let alloc = rt.alloc();
     assert!(rt;
         was(
-            conflicts_told(alloc, LACKING, 100),
+            write_conflicts_to(alloc, LACKING, 100),
             true,
             "conflict c no value\n"
         )?
     );
-    assert!(rt; was(conflicts_told(alloc, LACKING, 10), false, "")?);
-    assert!(rt; was(conflicts_told(alloc, WHOLE, 0), true, "")?);
+    assert!(rt; was(write_conflicts_to(alloc, LACKING, 10), false, "")?);
+    assert!(rt; was(write_conflicts_to(alloc, WHOLE, 0), true, "")?);
     Ok(())
 }
 
@@ -102,14 +102,14 @@ fn gaps_are_told_until_a_sink_is_full(rt: HostRuntime) -> Result<(), Fail> {
     let alloc = rt.alloc();
     assert!(rt;
         was(
-            gaps_told(alloc, &[], 100),
+            write_gaps_to(alloc, &[], 100),
             true,
             "incomplete . not a single value\n"
         )?
     );
     assert!(rt;
         was(
-            gaps_told(alloc, LACKING, 50),
+            write_gaps_to(alloc, LACKING, 50),
             false,
             "incomplete a missing\n"
         )?
@@ -121,11 +121,11 @@ fn gaps_are_told_until_a_sink_is_full(rt: HostRuntime) -> Result<(), Fail> {
 fn exports_are_told_to_a_sink(rt: HostRuntime) -> Result<(), Fail> {
     let alloc = rt.alloc();
     let json = "{\"a\":{\"c\":-1},\"b\":2,\"l\":[1,[]]}";
-    assert!(rt; was(export_told(alloc, WHOLE, 100), true, json)?);
-    assert!(rt; was(export_told(alloc, WHOLE, 3), false, "")?);
+    assert!(rt; was(write_export_to(alloc, WHOLE, 100), true, json)?);
+    assert!(rt; was(write_export_to(alloc, WHOLE, 3), false, "")?);
     assert!(rt;
         was(
-            export_told(alloc, LACKING, 100),
+            write_export_to(alloc, LACKING, 100),
             true,
             "conflict c no value\n"
         )?

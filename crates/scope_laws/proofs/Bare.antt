@@ -9,7 +9,7 @@ use Rattle.cue_syntax.specs.declared.tree.Identifier.TheVariants as identifiers
 use Rattle.cue_syntax.specs.Syntax as tree
 use Rattle.cue_syntax.specs.Syntax.{Expression, Elements, no_elements, element, branch, Branches, no_branches, next_branch, ellipsis, field, definition, Entries, no_entries, entry}
 use Rattle.cue_syntax.specs.Unplaced.{unplaced, unplaced_elements, unplaced_rest, unplaced_branches, unplaced_entries}
-use Rattle.cue_scope.specs.Definitions.{Definition, definitions, number_of, repeats_after, repeats}
+use Rattle.cue_scope.specs.Definitions.{Definition, definitions, number_of_name, repeats_after, repeated_names}
 use Rattle.cue_scope.specs.Uses.{uses, uses_of_name, uses_of_elements, uses_of_rest, uses_of_branches, uses_of_entries, graph}
 
 -- the same definition without places
@@ -24,7 +24,7 @@ bare_definitions (entry (definition t place chain e) es) = ap (λ z. bare (recor
 
 -- the same names have the same numbers
 abbrev pub SameNumbers : List Definition → List Definition → Type 0
-SameNumbers cs ds = (t : List ℕ) → number_of t cs ≡ number_of t ds
+SameNumbers cs ds = (t : List ℕ) → number_of_name t cs ≡ number_of_name t ds
 
 position_bare : (t : List ℕ) (i : ℕ) (ds : List Definition) → position_from (λ d. bytes_eq t d.name) i (map bare ds) ≡ position_from (λ d. bytes_eq t d.name) i ds
 position_bare t i [] = refl
@@ -44,16 +44,16 @@ repeat_bare false place = refl
 repeats_bare : (before ds : List Definition) → repeats_after (map bare before) (map bare ds) ≡ zeros (repeats_after before ds)
 repeats_bare before [] = refl
 repeats_bare before (d ∷ ds) =
-    let one = cond (is_some (number_of d.name before)) (d.place ∷ []) [] in
-    let first : cond (is_some (number_of d.name (map bare before))) (0 ∷ []) [] ≡ zeros one =
-    ap (λ z. cond (is_some z) (0 ∷ []) []) (bare_numbers before d.name) ∙ repeat_bare (is_some (number_of d.name before)) d.place in
+    let one = cond (is_some (number_of_name d.name before)) (d.place ∷ []) [] in
+    let first : cond (is_some (number_of_name d.name (map bare before))) (0 ∷ []) [] ≡ zeros one =
+    ap (λ z. cond (is_some z) (0 ∷ []) []) (bare_numbers before d.name) ∙ repeat_bare (is_some (number_of_name d.name before)) d.place in
     let later : repeats_after (map bare before ++ bare d ∷ []) (map bare ds) ≡ zeros (repeats_after (before ++ d ∷ []) ds) =
     ap (λ z. repeats_after z (map bare ds)) (sym (map-append bare before (d ∷ []))) ∙ repeats_bare (before ++ d ∷ []) ds in
     ap (λ z. z ++ repeats_after (map bare before ++ bare d ∷ []) (map bare ds)) first
     ∙ ap (λ z. zeros one ++ z) later
     ∙ sym (map-append (λ n. 0) one (repeats_after (before ++ d ∷ []) ds))
 
-pub bare_repeats : (ds : List Definition) → repeats (map bare ds) ≡ zeros (repeats ds)
+pub bare_repeats : (ds : List Definition) → repeated_names (map bare ds) ≡ zeros (repeated_names ds)
 bare_repeats ds = repeats_bare [] ds
 
 name_uses : (cs ds : List Definition) → SameNumbers cs ds → (n : Identifier) → uses_of_name cs n ≡ uses_of_name ds n

@@ -9,12 +9,12 @@ use Rattle.cue_lattice.specs.declared.refusal.Refusal.{Refusal}
 use Rattle.cue_lattice.specs.Limits.{size_limit, step_limit}
 use Rattle.cue_syntax.specs.Syntax.{Entries}
 use Rattle.cue_syntax.specs.Unplaced.{unplaced_entries}
-use Rattle.cue_scope.specs.Definitions.{Definition, definitions, repeats}
-use Rattle.cue_scope.specs.First.{IsFirst}
+use Rattle.cue_scope.specs.Definitions.{Definition, definitions, repeated_names}
+use Rattle.cue_scope.specs.First.{IsFirstName}
 use Rattle.cue_scope.specs.Graph.{IsAcyclic, IsFirstCycle}
 use Rattle.cue_scope.specs.Limits.{size, depth}
 use Rattle.cue_scope.specs.Names.{name_faults}
-use Rattle.cue_scope.specs.Refusing.{IsUnrepeated, IsNamed, IsOrdered, HasScalarTerms, IsSmall, IsLegal, IsCycleAt}
+use Rattle.cue_scope.specs.Refusing.{IsUnrepeated, IsEachNamed, IsOrdered, HasScalarTerms, IsSmallTree, IsLegalTree, IsCycleAt}
 use Rattle.cue_scope.specs.Terms.{bad_terms}
 use Rattle.cue_scope.specs.Uses.{graph}
 use Rattle.scope_laws.specs.Places.{AreRefusedAs, KeepsChecks}
@@ -32,7 +32,7 @@ empty_same {A = A} f xs ys same = (λ e. same ∙ ap (λ z. map f z) e, λ e. no
 
 -- one of a list stands first in it
 abbrev HasFirst : List ℕ → Type 0
-HasFirst ns = (place : ℕ) × IsFirst place ns
+HasFirst ns = (place : ℕ) × IsFirstName place ns
 
 first_same : (ns ms : List ℕ) → ms ≡ zeros ns → HasFirst ns ↔ HasFirst ms
 first_same ns ms same =
@@ -44,7 +44,7 @@ first_same ns ms same =
 
 -- the first of the faults is of this kind
 abbrev IsFirstKind : Kind → List Refusal → Type 0
-IsFirstKind kind faults = (place : ℕ) × IsFirst (record { kind = kind; place = place }) faults
+IsFirstKind kind faults = (place : ℕ) × IsFirstName (record { kind = kind; place = place }) faults
 
 kind_same : (kind : Kind) (xs ys : List Refusal) → ys ≡ map nowhere xs → IsFirstKind kind xs ↔ IsFirstKind kind ys
 kind_same kind xs ys same =
@@ -57,16 +57,16 @@ kind_same kind xs ys same =
         let is : z.kind ≡ kind = ap (λ (r : Refusal). r.kind) first in
         (z.place, record { rest = zs; is = ap (λ k. record { kind = k; place = z.place } ∷ zs) is })
 
-repeats_same : (es : Entries) → repeats (definitions (unplaced_entries es)) ≡ zeros (repeats (definitions es))
-repeats_same es = ap repeats (bare_definitions es) ∙ bare_repeats (definitions es)
+repeats_same : (es : Entries) → repeated_names (definitions (unplaced_entries es)) ≡ zeros (repeated_names (definitions es))
+repeats_same es = ap repeated_names (bare_definitions es) ∙ bare_repeats (definitions es)
 
 graph_same : (es : Entries) → graph (definitions (unplaced_entries es)) ≡ graph (definitions es)
 graph_same es = ap graph (bare_definitions es) ∙ bare_graph (definitions es)
 
 unrepeated_same : (es : Entries) → IsUnrepeated es ↔ IsUnrepeated (unplaced_entries es)
-unrepeated_same es = empty_same (λ n. 0) (repeats (definitions es)) (repeats (definitions (unplaced_entries es))) (repeats_same es)
+unrepeated_same es = empty_same (λ n. 0) (repeated_names (definitions es)) (repeated_names (definitions (unplaced_entries es))) (repeats_same es)
 
-named_same : (es : Entries) → IsNamed es ↔ IsNamed (unplaced_entries es)
+named_same : (es : Entries) → IsEachNamed es ↔ IsEachNamed (unplaced_entries es)
 named_same es =
     let names = empty_same nowhere (name_faults es) (name_faults (unplaced_entries es)) (name_faults_same es) in
     (λ n. record { unrepeated = (unrepeated_same es).0 n.unrepeated; names = names.0 n.names }, λ n. record { unrepeated = (unrepeated_same es).1 n.unrepeated; names = names.1 n.names })
@@ -82,13 +82,13 @@ scalar_same es =
     let terms = empty_same (λ n. 0) (bad_terms es) (bad_terms (unplaced_entries es)) (bad_terms_same es) in
     (λ s. record { ordered = (ordered_same es).0 s.ordered; terms = terms.0 s.terms }, λ s. record { ordered = (ordered_same es).1 s.ordered; terms = terms.1 s.terms })
 
-small_same : (es : Entries) → IsSmall es ↔ IsSmall (unplaced_entries es)
+small_same : (es : Entries) → IsSmallTree es ↔ IsSmallTree (unplaced_entries es)
 small_same es = (
   λ s. record { scalar = (scalar_same es).0 s.scalar; size = subst (λ z. size z ≤ size_limit) (sym (text_same es)) s.size },
   λ s. record { scalar = (scalar_same es).1 s.scalar; size = subst (λ z. size z ≤ size_limit) (text_same es) s.size },
 )
 
-legal_same : (es : Entries) → IsLegal es ↔ IsLegal (unplaced_entries es)
+legal_same : (es : Entries) → IsLegalTree es ↔ IsLegalTree (unplaced_entries es)
 legal_same es = (
   λ l. record { small = (small_same es).0 l.small; depth = subst (λ z. depth z ≤ step_limit) (sym (text_same es)) l.depth },
   λ l. record { small = (small_same es).1 l.small; depth = subst (λ z. depth z ≤ step_limit) (text_same es) l.depth },
@@ -131,7 +131,7 @@ cycle_same : (es : Entries) → HasCycle (definitions es) ↔ HasCycle (definiti
 cycle_same es = subst (λ z. HasCycle (definitions es) ↔ HasCycle z) (sym (bare_definitions es)) (cycle_bare (definitions es))
 
 refused_same : (es : Entries) (kind : Kind) → AreRefusedAs kind es ↔ AreRefusedAs kind (unplaced_entries es)
-refused_same es kinds.Repeated = first_same (repeats (definitions es)) (repeats (definitions (unplaced_entries es))) (repeats_same es)
+refused_same es kinds.Repeated = first_same (repeated_names (definitions es)) (repeated_names (definitions (unplaced_entries es))) (repeats_same es)
 refused_same es kinds.UnknownName =
     let same = kind_same kinds.UnknownName (name_faults es) (name_faults (unplaced_entries es)) (name_faults_same es) in
     (λ h. let f = same.0 (h.0, h.1.1) in (f.0, ((unrepeated_same es).0 h.1.0, f.1)), λ h. let f = same.1 (h.0, h.1.1) in (f.0, ((unrepeated_same es).1 h.1.0, f.1)))

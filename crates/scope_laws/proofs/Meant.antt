@@ -11,9 +11,9 @@ use Rattle.cue_syntax.specs.Syntax as tree
 use Rattle.cue_syntax.specs.Syntax.{Expression, Elements, no_elements, element, branch, Branches, no_branches, next_branch, ellipsis, field, definition, Entries, no_entries, entry}
 use Rattle.cue_syntax.specs.Unplaced.{unplaced, unplaced_elements, unplaced_rest, unplaced_branches, unplaced_entries}
 use Rattle.cue_scope.specs.Core.{Core, bottom, closed, conjunction, disjunction, struct, close, list, each, core, followed_by, choice, member, dots, is_scalar}
-use Rattle.cue_scope.specs.Definitions.{Definition, definitions, number_of}
+use Rattle.cue_scope.specs.Definitions.{Definition, definitions, number_of_name}
 use Rattle.cue_scope.specs.Limits.{size, depth}
-use Rattle.cue_scope.specs.Meaning.{meant, meant_elements, meant_branches, meant_members, meant_name, meant_use, meaning_within, meaning, meant_fields, meant_text, nested, meant_rest, text_of}
+use Rattle.cue_scope.specs.Meaning.{meant, meant_elements, meant_branches, meant_members, meant_name, meant_use, meaning_within, meaning_of_number, meant_fields, meant_text, nest_in_labels, meant_rest, text_of}
 use Rattle.cue_scope.specs.Terms.{terms, terms_of_elements, terms_of_rest, terms_of_branches, terms_of_entries, bad_terms}
 use Rattle.scope_laws.specs.Places.{KeepsMeaning}
 use Rattle.scope_laws.proofs.Bare.{bare, bare_definitions, SameNumbers, bare_numbers, bare_length, zeros}
@@ -29,7 +29,7 @@ option_same f g uses (Some i) = uses i
 name_same : (cs ds : List Definition) (f g : ℕ → Core) → SameNumbers cs ds → SameUses f g → (n : Identifier) → meant_name cs f n ≡ meant_name ds g n
 name_same cs ds f g same uses (identifiers.Plain t) = refl
 name_same cs ds f g same uses (identifiers.Hidden t) = refl
-name_same cs ds f g same uses (identifiers.Definition t) = ap (λ z. option_map_or f z bottom) (same t) ∙ option_same f g uses (number_of t ds)
+name_same cs ds f g same uses (identifiers.Definition t) = ap (λ z. option_map_or f z bottom) (same t) ∙ option_same f g uses (number_of_name t ds)
 
 mutual
   meant_same : (cs ds : List Definition) (f g : ℕ → Core) → SameNumbers cs ds → SameUses f g → (e : Expression) → meant cs f (unplaced e) ≡ meant ds g e
@@ -70,13 +70,13 @@ mutual
   members_same cs ds f g same uses no_entries = refl
   members_same cs ds f g same uses (entry ellipsis es) = ap dots (members_same cs ds f g same uses es)
   members_same cs ds f g same uses (entry (field l chain e) es) =
-      ap (λ z. member (text_of l.name) l.mark (nested chain z) (meant_members cs f (unplaced_entries es))) (meant_same cs ds f g same uses e)
-      ∙ ap (λ z. member (text_of l.name) l.mark (nested chain (meant ds g e)) z) (members_same cs ds f g same uses es)
+      ap (λ z. member (text_of l.name) l.mark (nest_in_labels chain z) (meant_members cs f (unplaced_entries es))) (meant_same cs ds f g same uses e)
+      ∙ ap (λ z. member (text_of l.name) l.mark (nest_in_labels chain (meant ds g e)) z) (members_same cs ds f g same uses es)
   members_same cs ds f g same uses (entry (definition t place chain e) es) = members_same cs ds f g same uses es
 
 use_same : (cs ds : List Definition) (f g : ℕ → Core) → SameNumbers cs ds → SameUses f g → (o : Option Definition) → meant_use cs f (option_map bare o) ≡ meant_use ds g o
 use_same cs ds f g same uses None = refl
-use_same cs ds f g same uses (Some d) = ap (λ z. closed (nested d.chain z)) (meant_same cs ds f g same uses d.value)
+use_same cs ds f g same uses (Some d) = ap (λ z. closed (nest_in_labels d.chain z)) (meant_same cs ds f g same uses d.value)
 
 within_same : (ds : List Definition) (steps : ℕ) → SameUses (meaning_within steps (map bare ds)) (meaning_within steps ds)
 unfolding meaning_within
@@ -85,22 +85,22 @@ within_same ds (suc steps) i =
     ap (λ z. meant_use (map bare ds) (meaning_within steps (map bare ds)) z) (slice_get-map bare ds i)
     ∙ use_same (map bare ds) ds (meaning_within steps (map bare ds)) (meaning_within steps ds) (bare_numbers ds) (within_same ds steps) (slice_get ds i)
 
-meaning_same : (ds : List Definition) → SameUses (meaning (map bare ds)) (meaning ds)
+meaning_same : (ds : List Definition) → SameUses (meaning_of_number (map bare ds)) (meaning_of_number ds)
 meaning_same ds i = ap (λ n. meaning_within n (map bare ds) i) (bare_length ds) ∙ within_same ds (length ds) i
 
 fields_same : (cs ds : List Definition) (f g : ℕ → Core) → SameNumbers cs ds → SameUses f g → (es : Entries) → meant_fields cs f (unplaced_entries es) ≡ meant_fields ds g es
 fields_same cs ds f g same uses no_entries = refl
 fields_same cs ds f g same uses (entry ellipsis es) = fields_same cs ds f g same uses es
 fields_same cs ds f g same uses (entry (field l chain e) es) =
-    ap (λ z. member (text_of l.name) l.mark (nested chain z) (meant_fields cs f (unplaced_entries es))) (meant_same cs ds f g same uses e)
-    ∙ ap (λ z. member (text_of l.name) l.mark (nested chain (meant ds g e)) z) (fields_same cs ds f g same uses es)
+    ap (λ z. member (text_of l.name) l.mark (nest_in_labels chain z) (meant_fields cs f (unplaced_entries es))) (meant_same cs ds f g same uses e)
+    ∙ ap (λ z. member (text_of l.name) l.mark (nest_in_labels chain (meant ds g e)) z) (fields_same cs ds f g same uses es)
 fields_same cs ds f g same uses (entry (definition t place chain e) es) = fields_same cs ds f g same uses es
 
 pub text_same : (es : Entries) → meant_text (unplaced_entries es) ≡ meant_text es
 text_same es =
     let ds = definitions es in
-    ap (λ z. struct (meant_fields z (meaning z) (unplaced_entries es))) (bare_definitions es)
-    ∙ ap struct (fields_same (map bare ds) ds (meaning (map bare ds)) (meaning ds) (bare_numbers ds) (meaning_same ds) es)
+    ap (λ z. struct (meant_fields z (meaning_of_number z) (unplaced_entries es))) (bare_definitions es)
+    ∙ ap struct (fields_same (map bare ds) ds (meaning_of_number (map bare ds)) (meaning_of_number ds) (bare_numbers ds) (meaning_same ds) es)
 
 -- a text means the same without places, and has the same size and depth
 pub meant_alike : KeepsMeaning
@@ -160,5 +160,5 @@ mutual
 pub bad_terms_same : (es : Entries) → bad_terms (unplaced_entries es) ≡ zeros (bad_terms es)
 bad_terms_same es =
     let ds = definitions es in
-    ap (λ z. terms_of_entries z (meaning z) (unplaced_entries es)) (bare_definitions es)
-    ∙ terms_of_entries_same (map bare ds) ds (meaning (map bare ds)) (meaning ds) (bare_numbers ds) (meaning_same ds) es
+    ap (λ z. terms_of_entries z (meaning_of_number z) (unplaced_entries es)) (bare_definitions es)
+    ∙ terms_of_entries_same (map bare ds) ds (meaning_of_number (map bare ds)) (meaning_of_number ds) (bare_numbers ds) (meaning_same ds) es

@@ -5,7 +5,7 @@ use Rattle.cue_syntax.specs.Syntax.{Entries}
 use Rattle.cue_syntax.specs.Unplaced.{unplaced_entries}
 use Rattle.cue_scope.specs.Limits.{size, depth}
 use Rattle.cue_scope.specs.Meaning.{meant_text}
-use Rattle.cue_scope.specs.Refusing.{IsLegal, RefusesAs}
+use Rattle.cue_scope.specs.Refusing.{IsLegalTree, RefusesAs}
 
 -- declarations mean the same without their places
 pub record AreMeantAlike (es : Entries) : Type 0 where
@@ -22,7 +22,7 @@ AreRefusedAs kind es = (place : ℕ) × RefusesAs es kind place
 
 -- the checks decide the same without places, and it is the same check that refuses
 pub record AreCheckedAlike (es : Entries) : Type 0 where
-  pub legal : IsLegal es ↔ IsLegal (unplaced_entries es)
+  pub legal : IsLegalTree es ↔ IsLegalTree (unplaced_entries es)
   pub refused : (kind : Kind) → AreRefusedAs kind es ↔ AreRefusedAs kind (unplaced_entries es)
 
 abbrev pub KeepsChecks : Type 0

@@ -3,7 +3,7 @@
 use crate::pushes::{Told, texts_of};
 use crate::sockets::{ACCEPTED, TEXT, heard, sent};
 use cue_answer::Status;
-use cue_net::{Halt, push_for, serve_for};
+use cue_net::{NetError, push_for, serve_for};
 use cue_replica::Kind;
 use cue_wire::Request;
 use std::alloc::Global;
@@ -106,9 +106,9 @@ fn sizes_are_looked_at_before_the_port(rt: HostRuntime) -> Result<(), Fail> {
     };
     let mut inputs = texts_of(rt.alloc(), &["a: 1\n"])?;
     let nobody = push_for(&port, 81, &inputs);
-    assert!(rt; Told { answer: nobody }.halts(Halt::Device));
+    assert!(rt; Told { answer: nobody }.halts(NetError::Device));
     inputs.push(Request::State(Vec::from_elem(rt.alloc(), 0u8, 16_777_216)?))?;
     let refused = push_for(&port, 81, &inputs);
-    assert!(rt; Told { answer: refused }.halts(Halt::Refused(Kind::FrameTooLong)));
+    assert!(rt; Told { answer: refused }.halts(NetError::Refused(Kind::FrameTooLong)));
     Ok(())
 }

@@ -3,7 +3,7 @@
 use crate::devices::{Input, Output};
 use cue_answer::{Answer, Status};
 use cue_device::{Reader, Sink, Source, Writer};
-use cue_net::{Halt, MAX_TURNS, kind_of, loop_for, push};
+use cue_net::{MAX_TURNS, NetError, kind_of, loop_for, push};
 use cue_replica::{Kind, Refusal};
 use cue_wire::Request;
 use std::alloc::Global;
@@ -30,7 +30,7 @@ fn pushed(alloc: Global, texts: &[&str], replies: &[u8], most: usize) -> Result<
 /// What was answered.
 #[derive(Drop)]
 pub struct Told {
-    pub answer: Result<Answer, Halt>,
+    pub answer: Result<Answer, NetError>,
 }
 
 impl Told {
@@ -43,7 +43,7 @@ impl Told {
     }
 
     /// Whether it ended so.
-    pub fn halts(&self, why: Halt) -> bool {
+    pub fn halts(&self, why: NetError) -> bool {
         match &self.answer {
             Ok(_) => false,
             Err(halt) => *halt == why,
@@ -107,7 +107,7 @@ fn the_first_refusal_is_told(rt: HostRuntime) -> Result<(), Fail> {
         b"\0\0\0\x01\0\0\0\0\x09\x07\0\0\0\0\0\0\0\x05\0\0\0\x09\x08\0\0\0\0\0\0\0\0\0\0\0\x04\0\0{}";
     let run = pushed(rt.alloc(), &["", "a: *1", ""], replies.as_slice(), 4096)?;
     assert!(rt;
-        run.halts(Halt::RefusedInput(
+        run.halts(NetError::RefusedInput(
             Refusal {
                 kind: Kind::Syntax,
                 place: 5
@@ -133,7 +133,7 @@ fn what_is_no_reply_is_a_device_fault(rt: HostRuntime) -> Result<(), Fail> {
         b"\0\0\0\x08\x07\0\0\0\0\0\0\0",
     ];
     for replies in none {
-        assert!(rt; pushed(rt.alloc(), &[], replies, 4096)?.halts(Halt::Device));
+        assert!(rt; pushed(rt.alloc(), &[], replies, 4096)?.halts(NetError::Device));
     }
     Ok(())
 }
@@ -141,10 +141,10 @@ fn what_is_no_reply_is_a_device_fault(rt: HostRuntime) -> Result<(), Fail> {
 #[test]
 fn refusals_of_no_input(rt: HostRuntime) -> Result<(), Fail> {
     let long = pushed(rt.alloc(), &[], b"\x01\0\0\x01".as_slice(), 4096)?;
-    assert!(rt; long.halts(Halt::Device));
+    assert!(rt; long.halts(NetError::Device));
     let reply = b"\0\0\0\x09\x17\0\0\0\0\0\0\0\0";
     let too_long = pushed(rt.alloc(), &[], reply.as_slice(), 4096)?;
-    assert!(rt; too_long.halts(Halt::RefusedExport(Kind::ReplyTooLong)));
+    assert!(rt; too_long.halts(NetError::RefusedExport(Kind::ReplyTooLong)));
     Ok(())
 }
 
@@ -170,7 +170,7 @@ fn turns_are_counted(rt: HostRuntime) {
     let replies = b"\0\0\0\x04\0\0{}";
     for turns in 0..2u64 {
         let (told, calls) = in_turns(rt.alloc(), &[], replies.as_slice(), turns);
-        assert!(rt; told.halts(Halt::Refused(Kind::TurnsUsed)));
+        assert!(rt; told.halts(NetError::Refused(Kind::TurnsUsed)));
         assert_eq!(rt; calls, turns);
     }
     let (told, calls) = in_turns(rt.alloc(), &[], replies.as_slice(), 2);
@@ -184,7 +184,7 @@ fn nothing_is_sent_with_an_input_that_is_too_long(rt: HostRuntime) -> Result<(),
     let mut inputs = texts_of(rt.alloc(), &["a: 1"])?;
     inputs.push(Request::State(state))?;
     let (told, calls) = in_turns(rt.alloc(), &inputs, b"", 100);
-    assert!(rt; told.halts(Halt::Refused(Kind::FrameTooLong)));
+    assert!(rt; told.halts(NetError::Refused(Kind::FrameTooLong)));
     assert_eq!(rt; calls, 0);
     Ok(())
 }
@@ -222,7 +222,7 @@ fn both_ends_in_one_process(rt: HostRuntime) -> Result<(), Fail> {
     assert!(rt; run.prints(b"conflict a no value\n", Status::Conflicts));
     let run = looped(&rt, &["a: 1\n", "a: *1"])?;
     assert!(rt;
-        run.halts(Halt::RefusedInput(
+        run.halts(NetError::RefusedInput(
             Refusal {
                 kind: Kind::Syntax,
                 place: 5

@@ -7,7 +7,7 @@ use crate::devices::{Input, Output};
 use crate::pushes::{Told, texts_of};
 use cue_answer::Status;
 use cue_device::{Fault, Reader, Writer};
-use cue_net::{End, Halt, Network, loop_for, push_for, serve_for};
+use cue_net::{End, NetError, Network, loop_for, push_for, serve_for};
 use cue_replica::Kind;
 use cue_wire::Request;
 use std::alloc::Global;
@@ -121,9 +121,9 @@ fn so_many_connections_at_this_port(rt: HostRuntime) {
     let three = b"{\"a\":1,\"b\":2,\"c\":3}\n";
     assert!(rt; Told { answer }.prints(three, Status::Done));
     let elsewhere = serve_for(&net, 3, 7);
-    assert!(rt; Told { answer: elsewhere }.halts(Halt::Device));
+    assert!(rt; Told { answer: elsewhere }.halts(NetError::Device));
     let too_many = serve_for(&net, 7, 5);
-    assert!(rt; Told { answer: too_many }.halts(Halt::Device));
+    assert!(rt; Told { answer: too_many }.halts(NetError::Device));
 }
 
 /// A text of 2,000 bytes comes a byte a turn.
@@ -152,11 +152,11 @@ fn the_export_of_the_site_at_this_port(rt: HostRuntime) -> Result<(), Fail> {
     let answer = push_for(&net, 7, &inputs);
     assert!(rt; Told { answer }.prints(b"{\"a\":1,\"z\":9}\n", Status::Done));
     let nobody = push_for(&net, 80, &inputs);
-    assert!(rt; Told { answer: nobody }.halts(Halt::Device));
+    assert!(rt; Told { answer: nobody }.halts(NetError::Device));
     let apart = loop_for(&net, &inputs);
-    assert!(rt; Told { answer: apart }.halts(Halt::Device));
+    assert!(rt; Told { answer: apart }.halts(NetError::Device));
     inputs.push(Request::State(Vec::from_elem(rt.alloc(), 0u8, 16_777_216)?))?;
     let too_long = push_for(&net, 80, &inputs);
-    assert!(rt; Told { answer: too_long }.halts(Halt::Refused(Kind::FrameTooLong)));
+    assert!(rt; Told { answer: too_long }.halts(NetError::Refused(Kind::FrameTooLong)));
     Ok(())
 }

@@ -53,7 +53,7 @@ fn texts_keep_their_bytes(rt: HostRuntime) -> Result<(), Fail> {
 /// What is printed of a text, a form and want of memory.
 fn printed(alloc: Global, text: Made<Text>) -> Made<String> {
     let text = text?;
-    let memory = Memory::beyond(1, u64::MAX);
+    let memory = Memory::too_many(1, u64::MAX);
     Ok(format!(in alloc; "{text} {text:?} {} {memory}", Form::TypedRest)?)
 }
 
@@ -72,6 +72,6 @@ fn numbers_and_names(rt: HostRuntime) {
     assert_eq!(rt; Kind::name_of(25), Some("Failed"));
     let long = Refusal::at(Kind::TooLong, TEXT_LIMIT);
     assert!(rt; long.kind == Kind::TooLong && long.place == 1_048_576);
-    let refusal = Refusal::from(Memory::beyond(u64::MAX, 1));
+    let refusal = Refusal::from(Memory::too_many(u64::MAX, 1));
     assert!(rt; refusal.kind == Kind::Memory && refusal.place == 0);
 }

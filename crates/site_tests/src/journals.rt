@@ -1,13 +1,15 @@
 //! Journals over disks in memory, also over one that fails at a call.
 
-use cue_journal::{Batch, Journal, Pair, Room, Unfit, Unread, read_file, read_pieces, recover};
+use cue_journal::{
+    Batch, BlockError, Journal, JournalPair, Room, Unread, read_file, read_pieces, recover,
+};
 use sqlite_disk::{Disk, Fuse, Memory};
 use std::alloc::Global;
 use std::io;
 use std::test::Fail;
 
 /// A batch of one entry.
-fn batch_of(alloc: Global, first: u8, rest: &[u8]) -> Result<Batch, Unfit> {
+fn batch_of(alloc: Global, first: u8, rest: &[u8]) -> Result<Batch, BlockError> {
     let mut batch = Batch::new(alloc);
     batch.push(first, rest)?;
     Ok(batch)
@@ -125,7 +127,7 @@ fn turn(bytes: &mut [u8], at: usize, bit: u32) {
 fn condensed(alloc: Global, calls: u64) -> io::Result<usize> {
     let one = Fuse::new(Memory::new(alloc), calls);
     let other = Fuse::new(Memory::new(alloc), calls);
-    let mut pair = Pair::new(journal_on(alloc, one)?, journal_on(alloc, other)?);
+    let mut pair = JournalPair::new(journal_on(alloc, one)?, journal_on(alloc, other)?);
     let mut batch = Batch::new(alloc);
     if batch.push(0, b"one").is_err() {
         return Err(io::ErrorKind::OutOfMemory.into());
@@ -135,7 +137,7 @@ fn condensed(alloc: Global, calls: u64) -> io::Result<usize> {
         return Err(io::ErrorKind::OutOfMemory.into());
     }
     match pair.condense(&mut batch)? {
-        Room::Enough => Ok(pair.grown()),
+        Room::Enough => Ok(pair.journal_length()),
         Room::Refused(error) => Err(error),
     }
 }

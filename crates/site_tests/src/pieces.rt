@@ -1,6 +1,6 @@
 //! Pieces that are kept, and given up.
 
-use cue_pieces::{Cursor, Pieces};
+use cue_pieces::{PieceCursor, Pieces};
 use std::alloc::{AllocError, Global};
 use std::test::Fail;
 
@@ -34,7 +34,7 @@ fn many(alloc: Global) -> Result<Pieces, AllocError> {
 
 /// Whether the pieces behind so many are kept.
 fn keeps(pieces: &Pieces, count: u64) -> Result<bool, AllocError> {
-    let body = pieces.behind(Cursor { run: 7, count })?;
+    let body = pieces.blocks_behind(PieceCursor { run: 7, count })?;
     Ok(body.is_some())
 }
 
@@ -52,7 +52,7 @@ fn small_pieces_are_given_up_too(rt: HostRuntime) -> Result<(), Fail> {
 fn a_piece_that_is_kept_is_found(rt: HostRuntime) -> Result<(), Fail> {
     let mut pieces = Pieces::new(rt.alloc(), 7);
     pieces.add(0, b"a: 1")?;
-    assert!(rt; pieces.has(0, b"a: 1")? && !pieces.has(1, b"a: 1")?);
-    assert!(rt; pieces.knows(b"\0a: 1")? && !pieces.knows(b"\0a: 2")?);
+    assert!(rt; pieces.contains_parts(0, b"a: 1")? && !pieces.contains_parts(1, b"a: 1")?);
+    assert!(rt; pieces.contains_entry(b"\0a: 1")? && !pieces.contains_entry(b"\0a: 2")?);
     Ok(())
 }

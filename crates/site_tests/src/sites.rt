@@ -3,10 +3,11 @@
 use crate::journals::journal_on;
 use bytes::{Buf, Bytes};
 use cue_http::{Gathers, News};
-use cue_journal::{Pair, Unfit};
+use cue_journal::{BlockError, JournalPair};
 use cue_replica::Replica;
 use cue_service::{
-    Desk, Shown, Site, SourceStanding, Standing, Token, add_entries, is_hidden, snapshot_in,
+    AccessToken, Shown, Site, SiteCore, SourceStanding, Standing, add_entries, is_hidden,
+    snapshot_in,
 };
 use http::Request;
 use http_server::{Response, Settle};
@@ -19,10 +20,10 @@ use std::test::Fail;
 const RUN: u64 = 7;
 
 /// A site that has accepted nothing, with one peer.
-pub fn new_site(alloc: Global, word: Option<Token>) -> Result<Site<Memory>, Fail> {
+pub fn new_site(alloc: Global, word: Option<AccessToken>) -> Result<Site<Memory>, Fail> {
     let mut sources = Vec::new(alloc);
     sources.push(SourceStanding::new(String::from_str(alloc, "peer")?))?;
-    let files = Pair::new(
+    let files = JournalPair::new(
         journal_on(alloc, Memory::new(alloc))?,
         journal_on(alloc, Memory::new(alloc))?,
     );
@@ -57,7 +58,7 @@ fn answers_all(alloc: Global, site: &mut Site<Memory>, rows: &[Row]) -> Result<b
 }
 
 /// Whether a new site, where this word is wanted, answers so.
-fn new_answers(alloc: Global, word: Option<Token>, rows: &[Row]) -> Result<bool, Fail> {
+fn new_answers(alloc: Global, word: Option<AccessToken>, rows: &[Row]) -> Result<bool, Fail> {
     let mut site = new_site(alloc, word)?;
     answers_all(alloc, &mut site, rows)
 }
@@ -101,7 +102,7 @@ fn a_known_piece_changes_nothing(rt: HostRuntime) -> Result<(), Fail> {
 
 /// A site whose journal begins with a snapshot of so many bytes.
 fn site_behind(alloc: Global, snapshot: usize) -> Result<Site<Memory>, Fail> {
-    let files = Pair::new(
+    let files = JournalPair::new(
         journal_on(alloc, Memory::new(alloc))?,
         journal_on(alloc, Memory::new(alloc))?,
     );
@@ -190,7 +191,7 @@ fn pieces_are_taken_and_told(rt: HostRuntime) -> Result<(), Fail> {
 
 #[test]
 fn a_word_is_wanted(rt: HostRuntime) -> Result<(), Fail> {
-    let word = Token {
+    let word = AccessToken {
         bytes: Vec::from_slice(rt.alloc(), b"sesame")?,
     };
     let refused: &[Row] = &[("POST /fragments", b"a: 1", 401, b"")];
@@ -218,15 +219,15 @@ const GATHERED: &[Row] = &[
 /// peers.
 fn gathers(site: &mut Site<Memory>, state: &[u8]) -> bool {
     let before = site.edition();
-    let taken = site.pulled(state) && site.edition() != before && !site.pulled(b"no state");
-    let pieces = site.pulled_pieces(BLOCK) && !site.pulled_pieces(b"no pieces");
+    let taken = site.pull_state(state) && site.edition() != before && !site.pull_state(b"no state");
+    let pieces = site.pull_pieces(BLOCK) && !site.pull_pieces(b"no pieces");
     for news in [
         News::Now(7),
         News::Answered(0),
         News::Failed(0),
         News::Forgotten(0),
     ] {
-        site.hear(news);
+        site.note_news(news);
     }
     taken && pieces && site.tag().is_some() && site.fault().kind() == ErrorKind::Other
 }
@@ -247,7 +248,7 @@ fn entries_are_taken_in(rt: HostRuntime) -> Result<(), Fail> {
     let mut entries = Vec::new(rt.alloc());
     entries.push(Vec::from_slice(rt.alloc(), b"\0a: 1")?)?;
     assert!(rt; add_entries(&mut board, &entries).is_ok());
-    let desk = Desk::new(
+    let desk = SiteCore::new(
         rt.alloc(),
         board,
         None,

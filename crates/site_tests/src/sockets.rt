@@ -2,7 +2,7 @@
 //! rounds begin, and their answers are read after them.
 
 use crate::sites::new_site;
-use cue_http::{Bounds, Source, serve};
+use cue_http::{Bounds, PullSource, serve};
 use http_server::Config;
 use mio::net::TcpListener;
 use std::io;
@@ -12,8 +12,8 @@ use std::test::Fail;
 use std::time::Duration;
 
 /// A site that is not there.
-fn nobody() -> Source {
-    Source {
+fn nobody() -> PullSource {
+    PullSource {
         at: SocketAddr::from((Ipv4Addr::LOCALHOST, 1)),
     }
 }
@@ -117,7 +117,7 @@ const KNOWN: &[u8] =
 fn a_source_is_asked_with_the_tag_of_the_table(rt: HostRuntime) -> Result<(), Fail> {
     let listener = TcpListener::bind(&rt, SocketAddr::from((Ipv4Addr::LOCALHOST, 0)))?;
     let peer = std::net::TcpListener::bind(&rt, SocketAddr::from((Ipv4Addr::LOCALHOST, 0)))?;
-    let source = Source {
+    let source = PullSource {
         at: peer.local_addr()?,
     };
     let site = new_site(rt.alloc(), None)?;

@@ -7,8 +7,8 @@ use Rattle.cue_lattice.specs.Document.{Document}
 use Rattle.cue_scope.specs.Core.{Core, top, bottom, conjunction, disjunction, struct, close, list, closed, no_cores, core, ends, goes_on, each, element, choice, no_choices, Members, no_members, dots}
 use Rattle.cue_eval.proofs.Example.{field, optional, required}
 use Rattle.cue_eval.proofs.Example as expressions
-use Rattle.cue_documents.specs.Admits.{Admits}
-use Rattle.cue_documents.specs.Conjuncts.{Declares}
+use Rattle.document_laws.specs.Admits.{Admits}
+use Rattle.document_laws.specs.Conjuncts.{DeclaresLabel}
 use Rattle.store_facts.proofs.Base.{a, b, c, number, other}
 use Rattle.store_facts.proofs.Documents.{a_is}
 
@@ -121,7 +121,7 @@ a_definition_admits_what_it_declares = (
 
 but_no_other_label : Admits (closed (struct (optional a top no_members))) (documents.map (documents.member b null documents.no_members)) → ⊥
 but_no_other_label h = by h.1.0 where
-  by : Declares (optional a top no_members ∷ []) b → ⊥
+  by : DeclaresLabel (optional a top no_members ∷ []) b → ⊥
   by (inl (inl (inl e))) = other a b refl e
   by (inl (inl (inr h))) = h
   by (inl (inr h)) = h
@@ -130,7 +130,7 @@ but_no_other_label h = by h.1.0 where
 
 nor_one_further_below : Admits (closed (struct nested)) (below_a c) → ⊥
 nor_one_further_below h = by h.1.1.0 where
-  by : Declares (optional b top no_members ∷ []) c → ⊥
+  by : DeclaresLabel (optional b top no_members ∷ []) c → ⊥
   by (inl (inl (inl e))) = other b c refl e
   by (inl (inl (inr h))) = h
   by (inl (inr h)) = h
@@ -144,7 +144,7 @@ close_leaves_what_is_below_open =
 
 and_closes_its_own : Admits (close (optional a top no_members)) (documents.map (documents.member b null documents.no_members)) → ⊥
 and_closes_its_own h = by h.1.0 where
-  by : Declares (optional a top no_members ∷ []) b → ⊥
+  by : DeclaresLabel (optional a top no_members ∷ []) b → ⊥
   by (inl (inl (inl e))) = other a b refl e
   by (inl (inl (inr h))) = h
   by (inl (inr h)) = h
@@ -163,7 +163,7 @@ parts_declare_together =
 -- [{a?: _}]
 an_element_of_a_definition_is_closed : Admits (closed (list (element (struct (optional a top no_members)) ends))) (one_item (documents.map (documents.member b null documents.no_members))) → ⊥
 an_element_of_a_definition_is_closed h = by h.1.0.0 where
-  by : Declares (optional a top no_members ∷ []) b → ⊥
+  by : DeclaresLabel (optional a top no_members ∷ []) b → ⊥
   by (inl (inl (inl e))) = other a b refl e
   by (inl (inl (inr h))) = h
   by (inl (inr h)) = h

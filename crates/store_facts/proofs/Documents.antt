@@ -11,14 +11,14 @@ use Rattle.std.proofs.lemmas.Str.{IsUtf8-from_is_utf8, is_utf8-from_IsUtf8}
 use Rattle.cue_lattice.specs.declared.scalar.Scalar.TheVariants as scalars
 use Rattle.cue_lattice.specs.Path.{label}
 use Rattle.cue_lattice.specs.Question.{Refusals, level_at_most}
-use Rattle.cue_lattice.specs.Document.{Document, scalar, list, map, no_items, item, no_members, member, length_of, Has, IsReadable, IsDocument}
+use Rattle.cue_lattice.specs.Document.{Document, scalar, list, map, no_items, item, no_members, member, length_of, HasMember, IsReadable, IsDocument}
 use Rattle.cue_lattice.specs.Meets.{Meets}
 use Rattle.cue_sets.specs.Texts.{text_cmp}
 use Rattle.cue_sets.specs.TextLaws.{same_from_equal}
 use Rattle.cue_row.specs.declared.level.Level.TheVariants.{Optional, Given}
 use Rattle.cue_row.specs.declared.parts.RowParts.{RowParts as Row}
 use Rattle.cue_row.specs.Made.{scalar_row, list_row, struct_row}
-use Rattle.cue_row.specs.Row.{RowRefuses}
+use Rattle.cue_row.specs.Row.{RowRefusesQuestion}
 use Rattle.cue_table.specs.Tree.{row_of, branch_at, if_equal}
 use Rattle.cue_table.specs.Refuses.{TableRefuses}
 use Rattle.cue_table.specs.Refuses as tables
@@ -62,23 +62,23 @@ numbers_are_readable = tt
 two_items : length_of (item (scalar scalars.Null) (item (scalar (number 1)) no_items)) ≡ 2
 two_items = refl
 
-a_map_has_its_labels : Has b (member a (scalar scalars.Null) (member b (scalar scalars.Null) no_members))
+a_map_has_its_labels : HasMember b (member a (scalar scalars.Null) (member b (scalar scalars.Null) no_members))
 a_map_has_its_labels = inr (inl refl)
 
-and_no_others : Has b (member a (scalar scalars.Null) no_members) → ⊥
+and_no_others : HasMember b (member a (scalar scalars.Null) no_members) → ⊥
 and_no_others (inl e) = other a b refl e
 and_no_others (inr h) = h
 
 -- ---- what meets a: 1
 -- what a file refuses whose only field is a
 abbrev pub refused_by : Row → Refusals
-refused_by row = TableRefuses RowRefuses (file (leaf row))
+refused_by row = TableRefuses RowRefusesQuestion (file (leaf row))
 
 -- only a may have to be there
 pub wanted : (row : Row) (l : List ℕ) (k : ℕ) → refused_by row (label l ∷ []) (level_at_most k) → l ≡ a
 wanted row l k h = by (text_cmp l a) refl h where
   by : (o : Ordering) → text_cmp l a ≡ o
-      → tables.RowRefuses RowRefuses (option_and_then row_of (option_and_then (λ t. branch_at t []) (if_equal o (leaf row) None))) (level_at_most k)
+      → tables.RowRefuses RowRefusesQuestion (option_and_then row_of (option_and_then (λ t. branch_at t []) (if_equal o (leaf row) None))) (level_at_most k)
       → l ≡ a
   by Less e h = absurd h
   by Greater e h = absurd h
@@ -111,7 +111,7 @@ an_optional_field_may_lack =
       none : (l : List ℕ) → refused_by (scalar_row Optional (just 1) (just 1)) (label l ∷ []) (level_at_most 0) → ⊥
       none l h = by (text_cmp l a) h where
         by : (o : Ordering)
-            → tables.RowRefuses RowRefuses (option_and_then row_of (option_and_then (λ t. branch_at t []) (if_equal o (leaf (scalar_row Optional (just 1) (just 1))) None))) (level_at_most 0)
+            → tables.RowRefuses RowRefusesQuestion (option_and_then row_of (option_and_then (λ t. branch_at t []) (if_equal o (leaf (scalar_row Optional (just 1) (just 1))) None))) (level_at_most 0)
             → ⊥
         by Less h = h
         by Greater h = h
@@ -121,12 +121,12 @@ but_not_have_another_value : Meets (refused_by (scalar_row Optional (just 1) (ju
 but_not_have_another_value h = h.2.1 (in_range 2 (lit< tt), refl)
 
 -- a label that the root leaves out
-a_label_that_is_left_out_does_not : Meets (TableRefuses RowRefuses (leaf (struct_row Optional (Some (a ∷ []))))) (map (member b (scalar scalars.Null) no_members)) → ⊥
+a_label_that_is_left_out_does_not : Meets (TableRefuses RowRefusesQuestion (leaf (struct_row Optional (Some (a ∷ []))))) (map (member b (scalar scalars.Null) no_members)) → ⊥
 a_label_that_is_left_out_does_not h = h.2.0 refl
 
 -- lists of two elements
 abbrev two : Refusals
-two = TableRefuses RowRefuses (leaf (list_row Given 2 (Some 2)))
+two = TableRefuses RowRefusesQuestion (leaf (list_row Given 2 (Some 2)))
 
 two_elements_meet_it : Meets two (list (item (scalar scalars.Null) (item (scalar scalars.Null) no_items)))
 two_elements_meet_it = ((λ h. false≢true (sym h)), (λ h. omega (arith, h)), (λ h. omega (arith, h)), ((λ h. h), ((λ h. h), tt)))

@@ -2,7 +2,7 @@
 use Rattle.std.proofs.Common.{◌≡◌, ℕ, List, Some, None, refl, arith, lit<, lit≤}
 use Rattle.cue_lattice.specs.Path.{label, index}
 use Rattle.cue_table.specs.Tree.{Tree, node, Children, none, child, Rest, no_rest, onward, empty}
-use Rattle.cue_table.specs.Form.{IsTree, IsTaken, IsKept}
+use Rattle.cue_table.specs.Form.{IsTree, IsTreeTaken, IsRowKept}
 use Rattle.store_facts.proofs.Base.{a, b}
 use Rattle.store_facts.proofs.Trees.{leaf}
 
@@ -34,7 +34,7 @@ an_element_before_a_label_does_not h = let e = h.1.0.0 in cc
 an_empty_branch_is_none : IsInForm (place (child (label a) (node None none no_rest) none) no_rest) → ⊥
 an_empty_branch_is_none h = h.1.1
 
-an_empty_branch_is_not_taken : IsTaken {R = ℕ} (node None none no_rest) → ⊥
+an_empty_branch_is_not_taken : IsTreeTaken {R = ℕ} (node None none no_rest) → ⊥
 an_empty_branch_is_not_taken h = h
 
 a_branch_with_a_row_below_is_one : IsInForm (place (child (label a) (node None (field b 1 none) no_rest) none) no_rest)
@@ -62,8 +62,8 @@ nor_is_one_behind_all_indexes : IsInForm (place none (onward 4294967297 (leaf 5)
 nor_is_one_behind_all_indexes h = omega (arith, h.2.4)
 
 -- a row is kept that refuses something
-what_refuses_nothing_is_not_kept : IsKept (λ (row question : ℕ). ⊥) (λ row. Unit {0}) 3 → ⊥
+what_refuses_nothing_is_not_kept : IsRowKept (λ (row question : ℕ). ⊥) (λ row. Unit {0}) 3 → ⊥
 what_refuses_nothing_is_not_kept h = h.1 (λ question r. r)
 
-what_refuses_its_own_number_is_kept : IsKept (λ (row question : ℕ). row ≡ question) (λ row. Unit {0}) 3
+what_refuses_its_own_number_is_kept : IsRowKept (λ (row question : ℕ). row ≡ question) (λ row. Unit {0}) 3
 what_refuses_its_own_number_is_kept = (tt, λ none. none 3 refl)

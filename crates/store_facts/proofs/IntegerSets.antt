@@ -2,7 +2,7 @@
 use Rattle.std.proofs.Common.{◌≡◌, ℤ, pos, negsuc, List, [], ◌∷◌, true, false, refl, sym, arith, lit<}
 use Rattle.std.proofs.lemmas.Bool.{false≢true}
 use Rattle.std.proofs.lemmas.Int.{ints}
-use Rattle.cue_sets.specs.Pieces.{is_member, IsCanonical, is_int64, Refuses, least, greatest}
+use Rattle.cue_sets.specs.Pieces.{is_member, IsCanonical, is_int64, RefusesInteger, least, greatest}
 use Rattle.store_facts.proofs.Base.{in_range}
 
 -- from 1 to 3, and from 5 to 9
@@ -60,11 +60,11 @@ integers_of_64_bits : (is_int64 (negsuc 9223372036854775807) ≡ true) × (is_in
     × (is_int64 (negsuc 9223372036854775808) ≡ false) × (is_int64 (pos 9223372036854775808) ≡ false)
 integers_of_64_bits = (refl, refl, refl, refl)
 
-a_set_refuses_what_it_lacks : Refuses two_pieces (pos 4)
+a_set_refuses_what_it_lacks : RefusesInteger two_pieces (pos 4)
 a_set_refuses_what_it_lacks = (in_range 4 (lit< tt), refl)
 
-a_set_refuses_no_member : Refuses two_pieces (pos 5) → ⊥
+a_set_refuses_no_member : RefusesInteger two_pieces (pos 5) → ⊥
 a_set_refuses_no_member h = false≢true (sym h.1)
 
-a_set_refuses_no_number_that_is_none_of_the_language : Refuses two_pieces (pos 9223372036854775808) → ⊥
+a_set_refuses_no_number_that_is_none_of_the_language : RefusesInteger two_pieces (pos 9223372036854775808) → ⊥
 a_set_refuses_no_number_that_is_none_of_the_language h = omega (arith, ints, h.0.1)

@@ -2,7 +2,7 @@
 use Rattle.std.proofs.Common.{◌≡◌, ℕ, ℤ, pos, Bool, List, [], ◌∷◌, true, false, Option, Some, None, refl}
 use Rattle.std.specs.Prelude.{option_map}
 use Rattle.cue_scalars.specs.Scalars.{members}
-use Rattle.cue_scalars.specs.Pairs.{Scalars, Pair, brought, both, all_of, disjunction}
+use Rattle.cue_scalars.specs.Pairs.{ScalarMembers, ScalarPair, default_or_value, unify_pairs, all_of, disjunction}
 use Rattle.store_facts.proofs.Base.{number}
 
 abbrev pieces_of : List ℕ → List (ℤ × ℤ)
@@ -10,21 +10,21 @@ pieces_of [] = []
 pieces_of (n ∷ ns) = (pos n, pos n) ∷ pieces_of ns
 
 -- these integers alone
-abbrev just : List ℕ → Scalars
+abbrev just : List ℕ → ScalarMembers
 just ns = members (record { null = false; no = false; yes = false; ints = pieces_of ns; texts = (false, []) })
 
-abbrev plain : List ℕ → Pair
+abbrev plain : List ℕ → ScalarPair
 plain ns = record { value = just ns; usual = None }
 
-abbrev with_default : List ℕ → List ℕ → Pair
+abbrev with_default : List ℕ → List ℕ → ScalarPair
 with_default ns ms = record { value = just ns; usual = Some (just ms) }
 
 -- which of 1, 2, 3 and 4 are members
-abbrev asked : Scalars → List Bool
+abbrev asked : ScalarMembers → List Bool
 asked set = set (number 1) ∷ set (number 2) ∷ set (number 3) ∷ set (number 4) ∷ []
 
 -- what may stand, and the default
-abbrev told : Pair → List Bool × Option (List Bool)
+abbrev told : ScalarPair → List Bool × Option (List Bool)
 told pair = (asked pair.value, option_map asked pair.usual)
 
 abbrev set : Bool → Bool → Bool → Bool → List Bool
@@ -88,10 +88,10 @@ without_defaults_there_is_none : told (all_of (plain (1 ∷ 2 ∷ []) ∷ plain 
     ≡ (set false true false false, None)
 without_defaults_there_is_none = refl
 
-two_at_a_time_are_the_same : told (both (with_default (1 ∷ 2 ∷ []) (1 ∷ [])) (plain (2 ∷ 3 ∷ [])))
+two_at_a_time_are_the_same : told (unify_pairs (with_default (1 ∷ 2 ∷ []) (1 ∷ [])) (plain (2 ∷ 3 ∷ [])))
     ≡ (set false true false false, Some (set false false false false))
 two_at_a_time_are_the_same = refl
 
-what_is_brought : (asked (brought (plain (1 ∷ 2 ∷ []))) ≡ set true true false false)
-    × (asked (brought (with_default (1 ∷ 2 ∷ []) (2 ∷ []))) ≡ set false true false false)
+what_is_brought : (asked (default_or_value (plain (1 ∷ 2 ∷ []))) ≡ set true true false false)
+    × (asked (default_or_value (with_default (1 ∷ 2 ∷ []) (2 ∷ []))) ≡ set false true false false)
 what_is_brought = (refl, refl)

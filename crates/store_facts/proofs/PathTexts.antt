@@ -5,7 +5,7 @@ use Rattle.std.specs.Fmt.{digits}
 use Rattle.std.specs.Str.{chars}
 use lib.Utf8.{encode}
 use Rattle.cue_lattice.specs.Path.{label, index}
-use Rattle.cue_row.specs.Quoted.{quoted}
+use Rattle.cue_row.specs.Quoted.{quote_text}
 use Rattle.cue_row.specs.PathText.{label_text, step_text, path_text}
 use Rattle.cue_report.specs.Lines.{conflict_line, gap_line}
 use Rattle.store_facts.proofs.Base.{a}
@@ -25,12 +25,12 @@ other_labels_are_quoted : (label_text [] ≡ codes "\"\"") × (label_text (codes
 unfolding chars encode
 other_labels_are_quoted = (refl, refl, refl, refl)
 
-escapes : quoted (codes "\"\\\n\r\t\u{1}\u{1f}\u{7f}") ≡ codes "\"\\\"\\\\\\n\\r\\t\\u0001\\u001f\\u007f\""
+escapes : quote_text (codes "\"\\\n\r\t\u{1}\u{1f}\u{7f}") ≡ codes "\"\\\"\\\\\\n\\r\\t\\u0001\\u001f\\u007f\""
 unfolding chars encode
 escapes = refl
 
 -- two bytes, which are one letter
-all_else_stands_for_itself : quoted (0xc3 ∷ 0xa9 ∷ 0x20 ∷ 0x2f ∷ []) ≡ 0x22 ∷ 0xc3 ∷ 0xa9 ∷ 0x20 ∷ 0x2f ∷ 0x22 ∷ []
+all_else_stands_for_itself : quote_text (0xc3 ∷ 0xa9 ∷ 0x20 ∷ 0x2f ∷ []) ≡ 0x22 ∷ 0xc3 ∷ 0xa9 ∷ 0x20 ∷ 0x2f ∷ 0x22 ∷ []
 unfolding chars encode
 all_else_stands_for_itself = refl
 

@@ -5,7 +5,7 @@ use Rattle.std.specs.declared.cmp.Ordering.TheVariants.{Less, Equal, Greater}
 use Rattle.cue_lattice.specs.Path.{label, index, step_cmp, path_cmp}
 use Rattle.cue_lattice.specs.Question.{Refusals, struct}
 use Rattle.cue_lattice.specs.Meets.{at_label, at_index}
-use Rattle.cue_report.specs.Answers.{further}
+use Rattle.cue_report.specs.Answers.{path_below}
 use Rattle.store_facts.proofs.Base.{a, b}
 
 labels_go_by_bytes_and_indexes_by_number : (step_cmp (label (codes "10")) (label (codes "9")) ≡ Less)
@@ -22,7 +22,7 @@ a_path_comes_before_those_that_it_begins = (refl, refl)
 the_first_step_counts_most : path_cmp (label a ∷ index 7 ∷ []) (label b ∷ []) ≡ Less
 the_first_step_counts_most = refl
 
-one_step_further : further (label a ∷ []) (index 2) ≡ label a ∷ index 2 ∷ []
+one_step_further : path_below (label a ∷ []) (index 2) ≡ label a ∷ index 2 ∷ []
 one_step_further = refl
 
 -- what is refused below a and below the index 3 is what is refused at the paths through them

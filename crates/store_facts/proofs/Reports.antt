@@ -13,12 +13,12 @@ use Rattle.cue_lattice.specs.Scalar.{IsScalar}
 use Rattle.cue_lattice.specs.Question.{Refusals, may_be, allows, level_at_most}
 use Rattle.cue_sets.specs.PieceLaws.{is_within-below, is_within-above}
 use Rattle.cue_scalars.specs.declared.scalar_set.ScalarSet.{ScalarSet}
-use Rattle.cue_scalars.specs.Scalars.{RefusesScalar, IsBefore}
+use Rattle.cue_scalars.specs.Scalars.{RefusesScalar, IsScalarBefore}
 use Rattle.cue_row.specs.declared.level.Level.TheVariants.{Optional, Required, Given}
 use Rattle.cue_row.specs.declared.parts.RowParts.{RowParts as Row}
 use Rattle.cue_row.specs.LabelSets.{allows_label}
 use Rattle.cue_row.specs.Made.{empty_set, free_row, scalar_row, struct_row, list_row, nothing_row}
-use Rattle.cue_row.specs.Row.{RowRefuses}
+use Rattle.cue_row.specs.Row.{RowRefusesQuestion}
 use Rattle.cue_table.specs.Tree.{node, none, child, no_rest, row_at}
 use Rattle.cue_table.specs.Refuses.{TableRefuses}
 use Rattle.cue_table.specs.Refuses as tables
@@ -30,14 +30,14 @@ use Rattle.cue_report.specs.declared.outcome.Export.TheVariants.{Conflicts, Inco
 use Rattle.cue_report.specs.Answers.{IsDemanded, HasNoScalar, HasNoValue, IsNotAllowed, HasNoLength, IsStepDemanded}
 use Rattle.cue_report.specs.declared.conflict.Conflict.{Conflict}
 use Rattle.cue_report.specs.declared.gap.Gap.{Gap}
-use Rattle.cue_report.specs.Gaps.{MayStand, IsMissing, IsUsual, IsChosen, IsFree, HasNoChoice, IsGap, AreGaps}
+use Rattle.cue_report.specs.Gaps.{MayScalarStand, IsMissing, IsUsual, IsChosenScalar, IsFreeRow, HasNoChoice, IsReportGap, AreGaps}
 use Rattle.cue_report.specs.Listing.{Lists, IsConflict, AreConflicts}
-use Rattle.cue_report.specs.Picks.{IsFirst, IsPicked}
-use Rattle.cue_report.specs.Export.{IsShape, AreKeys, IsLeast}
-use Rattle.cue_report.specs.ExportText.{IsExportOf, TellsExport}
-use Rattle.cue_report.specs.Lines.{TellsConflicts, TellsGaps, BeginsConflicts}
-use Rattle.cue_device.specs.Texts.{Begins}
-use Rattle.cue_report.specs.Documents.{json_of, SomeMeets, Tells, IsExactExport}
+use Rattle.cue_report.specs.Picks.{IsFirstPick, IsPicked}
+use Rattle.cue_report.specs.Export.{IsShape, AreKeys, IsLeastLength}
+use Rattle.cue_report.specs.ExportText.{IsExportOf, WritesExport}
+use Rattle.cue_report.specs.Lines.{WritesConflicts, WritesGaps, WritesConflictsPrefix}
+use Rattle.cue_device.specs.Texts.{WritesPrefix}
+use Rattle.cue_report.specs.Documents.{json_of, SomeMeets, IsDocumentOf, IsExactExport}
 use Rattle.cue_report.specs.OneReport.{IsSameExport}
 use Rattle.store_facts.proofs.Base.{a, b, number, in_range, other}
 use Rattle.store_facts.proofs.Rows.{just, one, the_full_set_refuses_no_scalar}
@@ -140,7 +140,7 @@ no_length_fits = inr ((λ h. false≢true (sym h)), fits) where
 
 -- ---- labels that are left out
 abbrev closed_at_a : Refusals
-closed_at_a = TableRefuses RowRefuses (file (node (Some (struct_row Given (Some (a ∷ [])))) (child (label b) (leaf one) none) no_rest))
+closed_at_a = TableRefuses RowRefusesQuestion (file (node (Some (struct_row Given (Some (a ∷ [])))) (child (label b) (leaf one) none) no_rest))
 
 another_label_is_not_allowed : IsNotAllowed closed_at_a (label a ∷ label b ∷ [])
 another_label_is_not_allowed = (label a ∷ [], b, refl, refl)
@@ -151,7 +151,7 @@ every_label_is_below_an_open_struct row open_ path (above, l, e, r) = by (row_at
   labels_of found (inl (p, f)) = ap (λ x. x.labels) f
   labels_of found (inr (p, f)) = ap (λ x. x.labels) f ∙ open_
 
-  by : (found : Option Row) → row_at (file (leaf row)) above ≡ found → tables.RowRefuses RowRefuses found (allows l) → ⊥
+  by : (found : Option Row) → row_at (file (leaf row)) above ≡ found → tables.RowRefuses RowRefusesQuestion found (allows l) → ⊥
   by None f h = h
   by (Some found) f h =
       let all = labels_of found (where_rows_stand row above found f) in
@@ -198,7 +198,7 @@ no_conflict_is_not_all_of_them h = h.complete _ a_conflict_without_a_value
 -- ---- the chosen scalar
 -- what refuses at each path what a row does
 abbrev of_row : Row → Refusals
-of_row row path = RowRefuses row
+of_row row path = RowRefusesQuestion row
 
 abbrev one_or_two : ScalarSet
 one_or_two = record (just 1) { ints = (pos 1, pos 2) ∷ [] }
@@ -219,7 +219,7 @@ only_one (scalars.Int n) s h =
     let above : pos 1 <ℤ n → ⊥ = λ l. h (s, ap (λ m. m || false) (is_within-above (pos 1, pos 1) n l)) in
     ap scalars.Int (only_integer n below above)
 
-pub one_is_chosen : (row : Row) → row.usual ≡ just 1 → IsChosen (of_row row) [] (number 1)
+pub one_is_chosen : (row : Row) → row.usual ≡ just 1 → IsChosenScalar (of_row row) [] (number 1)
 one_is_chosen row e = inl ((in_range 1 (lit< tt), λ h. may (subst (λ set. RefusesScalar set (number 1)) e h)), only) where
   may : RefusesScalar (just 1) (number 1) → ⊥
   may h = false≢true (sym h.1)
@@ -228,20 +228,20 @@ one_is_chosen row e = inl ((in_range 1 (lit< tt), λ h. may (subst (λ set. Refu
   only x u = only_one x u.0 (λ h. u.1 (subst (λ set. RefusesScalar set x) (sym e) h))
 
 -- *1 | 2
-the_default_is_chosen : IsChosen (of_row (scalar_row Given one_or_two (just 1))) [] (number 1)
+the_default_is_chosen : IsChosenScalar (of_row (scalar_row Given one_or_two (just 1))) [] (number 1)
 the_default_is_chosen = one_is_chosen (scalar_row Given one_or_two (just 1)) refl
 
-the_other_is_not : IsChosen (of_row (scalar_row Given one_or_two (just 1))) [] (number 2) → ⊥
+the_other_is_not : IsChosenScalar (of_row (scalar_row Given one_or_two (just 1))) [] (number 2) → ⊥
 the_other_is_not (inl h) = h.0.1 (in_range 2 (lit< tt), refl)
 the_other_is_not (inr h) = h.0 (number 1) (in_range 1 (lit< tt), λ r. false≢true (sym r.1))
 
-of_two_without_a_default_none_is : IsChosen (of_row (scalar_row Given one_or_two one_or_two)) [] (number 1) → ⊥
+of_two_without_a_default_none_is : IsChosenScalar (of_row (scalar_row Given one_or_two one_or_two)) [] (number 1) → ⊥
 of_two_without_a_default_none_is (inl h) =
     let e = h.1 (number 2) (in_range 2 (lit< tt), λ r. false≢true (sym r.1)) in cc
 of_two_without_a_default_none_is (inr h) = h.0 (number 1) (in_range 1 (lit< tt), λ r. false≢true (sym r.1))
 
 -- *_|_ | 1: the only one that may stand
-without_a_usual_one_the_only_one_is : IsChosen (of_row (scalar_row Given (just 1) empty_set)) [] (number 1)
+without_a_usual_one_the_only_one_is : IsChosenScalar (of_row (scalar_row Given (just 1) empty_set)) [] (number 1)
 without_a_usual_one_the_only_one_is = inr (none, ((in_range 1 (lit< tt), λ r. false≢true (sym r.1)), λ x h. only_one x h.0 h.1)) where
   none : (x : Scalar) → IsUsual (of_row (scalar_row Given (just 1) empty_set)) [] x → ⊥
   none scalars.Null h = h.1 refl
@@ -250,16 +250,16 @@ without_a_usual_one_the_only_one_is = inr (none, ((in_range 1 (lit< tt), λ r. f
   none (scalars.Text t) h = h.1 refl
   none (scalars.Int n) h = h.1 (h.0, refl)
 
-null_is_the_first : IsFirst (of_row (free_row Given)) [] scalars.Null
+null_is_the_first : IsFirstPick (of_row (free_row Given)) [] scalars.Null
 null_is_the_first = ((tt, λ h. false≢true (sym h)), none) where
-  none : (x : Scalar) → MayStand (of_row (free_row Given)) [] x → IsBefore x scalars.Null → ⊥
+  none : (x : Scalar) → MayScalarStand (of_row (free_row Given)) [] x → IsScalarBefore x scalars.Null → ⊥
   none scalars.Null m h = omega (arith, h)
   none (scalars.Bool false) m h = omega (arith, h)
   none (scalars.Bool true) m h = omega (arith, h)
   none (scalars.Int n) m h = omega (arith, h)
   none (scalars.Text t) m h = omega (arith, h)
 
-the_greater_one_is_not : IsFirst (of_row (scalar_row Given one_or_two one_or_two)) [] (number 2) → ⊥
+the_greater_one_is_not : IsFirstPick (of_row (scalar_row Given one_or_two one_or_two)) [] (number 2) → ⊥
 the_greater_one_is_not h = h.1 (number 1) (in_range 1 (lit< tt), λ r. false≢true (sym r.1)) (omega (arith, ints))
 
 the_chosen_one_is_picked : IsPicked (of_row one) [] (number 1)
@@ -284,7 +284,7 @@ one_of_a_row_may_stand : (row : Row) → (RefusesScalar row.value (number 1) →
 one_of_a_row_may_stand row may e (inl h) = may (h.0 (number 1) (in_range 1 (lit< tt)))
 one_of_a_row_may_stand row may e (inr h) = h.0 e
 
-a_missing_field_is_a_gap : IsGap (refused_by (scalar_row Required (just 1) (just 1))) (record { path = label a ∷ []; missing = true })
+a_missing_field_is_a_gap : IsReportGap (refused_by (scalar_row Required (just 1) (just 1))) (record { path = label a ∷ []; missing = true })
 a_missing_field_is_a_gap = record {
   demanded = a_is_demanded (scalar_row Required (just 1) (just 1)) (lit< tt);
   has_value = one_of_a_row_may_stand (scalar_row Required (just 1) (just 1)) (λ r. false≢true (sym r.1)) refl;
@@ -294,7 +294,7 @@ a_missing_field_is_a_gap = record {
 }
 
 -- a: 1 | 2
-two_without_a_default_are_a_gap : IsGap (refused_by (scalar_row Given one_or_two one_or_two)) (record { path = label a ∷ []; missing = false })
+two_without_a_default_are_a_gap : IsReportGap (refused_by (scalar_row Given one_or_two one_or_two)) (record { path = label a ∷ []; missing = false })
 two_without_a_default_are_a_gap = record {
   demanded = a_is_demanded (scalar_row Given one_or_two one_or_two) (lit< tt);
   has_value = one_of_a_row_may_stand (scalar_row Given one_or_two one_or_two) (λ r. false≢true (sym r.1)) refl;
@@ -305,32 +305,32 @@ two_without_a_default_are_a_gap = record {
   some : HasNoScalar (refused_by (scalar_row Given one_or_two one_or_two)) (label a ∷ []) → ⊥
   some h = let r = h (number 1) (in_range 1 (lit< tt)) in false≢true (sym r.1)
 
-  none : (x : Scalar) → IsChosen (refused_by (scalar_row Given one_or_two one_or_two)) (label a ∷ []) x → ⊥
+  none : (x : Scalar) → IsChosenScalar (refused_by (scalar_row Given one_or_two one_or_two)) (label a ∷ []) x → ⊥
   none x (inl h) =
       let e = h.1 (number 1) (in_range 1 (lit< tt), λ r. false≢true (sym r.1)) in
       let f = h.1 (number 2) (in_range 2 (lit< tt), λ r. false≢true (sym r.1)) in cc
   none x (inr h) = h.0 (number 1) (in_range 1 (lit< tt), λ r. false≢true (sym r.1))
 
 -- a: _
-anything_is_a_gap : IsFree (refused_by (free_row Given)) (label a ∷ [])
+anything_is_a_gap : IsFreeRow (refused_by (free_row Given)) (label a ∷ [])
 anything_is_a_gap = (the_full_set_refuses_no_scalar, (λ h. false≢true (sym h)), (λ h. false≢true (sym h)))
 
-one_value_is_none : (gap : Gap) → IsGap (refused_by one) gap → ⊥
+one_value_is_none : (gap : Gap) → IsReportGap (refused_by one) gap → ⊥
 one_value_is_none gap h = by gap.path (no_more one refl gap.path h.demanded) h.cause where
-  at_root : (IsMissing (refused_by one) [] ⊎ (IsFree (refused_by one) [] ⊎ HasNoChoice (refused_by one) [])) → ⊥
+  at_root : (IsMissing (refused_by one) [] ⊎ (IsFreeRow (refused_by one) [] ⊎ HasNoChoice (refused_by one) [])) → ⊥
   at_root (inl m) = omega (arith, m.0)
   at_root (inr (inl f)) = f.0 scalars.Null refl
   at_root (inr (inr n)) = false≢true (sym n.1)
 
-  at_a : (IsMissing (refused_by one) (label a ∷ []) ⊎ (IsFree (refused_by one) (label a ∷ []) ⊎ HasNoChoice (refused_by one) (label a ∷ []))) → ⊥
+  at_a : (IsMissing (refused_by one) (label a ∷ []) ⊎ (IsFreeRow (refused_by one) (label a ∷ []) ⊎ HasNoChoice (refused_by one) (label a ∷ []))) → ⊥
   at_a (inl m) = m.1 (lit< tt)
   at_a (inr (inl f)) = f.1 refl
   at_a (inr (inr n)) = n.3 (number 1) (one_is_chosen one refl)
 
   by : (path : Path) → (path ≡ []) ⊎ (path ≡ label a ∷ [])
-      → (IsMissing (refused_by one) path ⊎ (IsFree (refused_by one) path ⊎ HasNoChoice (refused_by one) path)) → ⊥
-  by path (inl e) h = at_root (subst (λ p. IsMissing (refused_by one) p ⊎ (IsFree (refused_by one) p ⊎ HasNoChoice (refused_by one) p)) e h)
-  by path (inr e) h = at_a (subst (λ p. IsMissing (refused_by one) p ⊎ (IsFree (refused_by one) p ⊎ HasNoChoice (refused_by one) p)) e h)
+      → (IsMissing (refused_by one) path ⊎ (IsFreeRow (refused_by one) path ⊎ HasNoChoice (refused_by one) path)) → ⊥
+  by path (inl e) h = at_root (subst (λ p. IsMissing (refused_by one) p ⊎ (IsFreeRow (refused_by one) p ⊎ HasNoChoice (refused_by one) p)) e h)
+  by path (inr e) h = at_a (subst (λ p. IsMissing (refused_by one) p ⊎ (IsFreeRow (refused_by one) p ⊎ HasNoChoice (refused_by one) p)) e h)
 
 pub a_is_one_has_no_gap : AreGaps (refused_by one) []
 a_is_one_has_no_gap = record { sound = tt; complete = λ gap h. absurd (one_value_is_none gap h); rising = tt }
@@ -339,7 +339,7 @@ a_is_one_has_no_gap = record { sound = tt; complete = λ gap h. absurd (one_valu
 its_keys : AreKeys (refused_by one) (a ∷ [])
 its_keys = record { sound = (lit< tt, tt); complete = λ l h. inl (sym (wanted one l 0 h)); rising = (tt, tt) }
 
-pub its_shape : IsShape IsChosen (refused_by one) (json_of (a_is 1))
+pub its_shape : IsShape IsChosenScalar (refused_by one) (json_of (a_is 1))
 its_shape = (
   (λ h. false≢true (sym h)),
   (λ free. free.0 scalars.Null refl),
@@ -351,24 +351,24 @@ pub a_is_one_is_exported : IsExportOf (refused_by one) kinds.Json (codes "{\"a\"
 unfolding digits escape_byte
 a_is_one_is_exported = (a_is_one_has_no_conflict, a_is_one_has_no_gap, (json_of (a_is 1), its_shape, refl))
 
-it_is_written_behind_what_was : TellsExport (refused_by one) kinds.Json (Some a) (Some (codes "a{\"a\":1}"))
+it_is_written_behind_what_was : WritesExport (refused_by one) kinds.Json (Some a) (Some (codes "a{\"a\":1}"))
 it_is_written_behind_what_was = (codes "{\"a\":1}", a_is_one_is_exported, refl)
 
-no_lines_are_written_where_there_is_no_conflict : TellsConflicts (refused_by one) false (Some a) (Some a)
+no_lines_are_written_where_there_is_no_conflict : WritesConflicts (refused_by one) false (Some a) (Some a)
 no_lines_are_written_where_there_is_no_conflict = ([], a_is_one_has_no_conflict, refl, refl)
 
-nor_where_there_is_no_gap : TellsGaps (refused_by one) false (Some a) (Some a)
+nor_where_there_is_no_gap : WritesGaps (refused_by one) false (Some a) (Some a)
 nor_where_there_is_no_gap = ([], a_is_one_has_no_gap, refl, refl)
 
-and_no_front_of_any : BeginsConflicts (refused_by one) (Some []) (Some a) → ⊥
+and_no_front_of_any : WritesConflictsPrefix (refused_by one) (Some []) (Some a) → ⊥
 and_no_front_of_any h = by (h [] a_is_one_has_no_conflict) where
-  by : Begins (Some []) (Some a) [] → ⊥
+  by : WritesPrefix (Some []) (Some a) [] → ⊥
   by begins = let e : [] ≡ a ++ begins.back = subst (λ front. [] ≡ front ++ begins.back) (sym begins.added) begins.whole in cc
 
 some_document_meets_it : SomeMeets (refused_by one)
 some_document_meets_it = (a_is 1, (a_is_utf8, tt, (in_range 1 (lit< tt), tt), tt), a_is_one_meets_it)
 
-and_is_told : Tells IsChosen (refused_by one) (json_of (a_is 1))
+and_is_told : IsDocumentOf IsChosenScalar (refused_by one) (json_of (a_is 1))
 and_is_told = record {
   document = a_is 1;
   is = (a_is_utf8, tt, (in_range 1 (lit< tt), tt), tt);
@@ -380,10 +380,10 @@ and_is_told = record {
 no_exact_export_has_conflicts : (found : Vec Conflict Global) → IsExactExport (refused_by one) (Conflicts found) → ⊥
 no_exact_export_has_conflicts found h = h some_document_meets_it
 
-null_stands_where_anything_may : IsShape IsChosen (of_row (free_row Given)) json.null
+null_stands_where_anything_may : IsShape IsChosenScalar (of_row (free_row Given)) json.null
 null_stands_where_anything_may = inl ((the_full_set_refuses_no_scalar, (λ h. false≢true (sym h)), (λ h. false≢true (sym h))), refl)
 
-a_list_of_any_length_has_no_elements : IsShape IsChosen (of_row (list_row Given 0 None)) (json.array json.no_items)
+a_list_of_any_length_has_no_elements : IsShape IsChosenScalar (of_row (list_row Given 0 None)) (json.array json.no_items)
 a_list_of_any_length_has_no_elements = (refl, (λ h. false≢true (sym h)), (λ n. ((λ h. h), (λ h. h))), tt)
 
 it_has_no_conflict_lines : (text : List ℕ) → IsExportOf (refused_by one) kinds.Conflicts text → ⊥
@@ -393,10 +393,10 @@ it_has_no_conflict_lines text (x ∷ xs, some, are, e) = a_is_one_has_no_conflic
 an_object_in_json : json_of (a_is 1) ≡ json.object (json.member a (json.number (of_integer (pos 1))) json.no_members)
 an_object_in_json = refl
 
-a_list_has_its_least_length : IsLeast (of_row (list_row Given 2 None)) 2
+a_list_has_its_least_length : IsLeastLength (of_row (list_row Given 2 None)) 2
 a_list_has_its_least_length n = ((λ h. h), (λ h. h))
 
-and_no_other : IsLeast (of_row (list_row Given 2 None)) 3 → ⊥
+and_no_other : IsLeastLength (of_row (list_row Given 2 None)) 3 → ⊥
 and_no_other h = omega (arith, (h 2).1 (lit< tt))
 
 two_kinds_of_export_differ : (found : Vec Conflict Global) (gaps : Vec Gap Global) → IsSameExport (Conflicts found) (Incomplete gaps) → ⊥

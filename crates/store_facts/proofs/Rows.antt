@@ -20,8 +20,8 @@ use Rattle.cue_row.specs.declared.question.Question.TheVariants as asks
 use Rattle.cue_row.specs.Levels.{level_of}
 use Rattle.cue_row.specs.Questions.{question_of}
 use Rattle.cue_row.specs.Made.{empty_set, full_set, free_row, scalar_row, struct_row, list_row, nothing_row}
-use Rattle.cue_row.specs.Kinds.{IsEmptySet, IsFullSet, IsKind}
-use Rattle.cue_row.specs.Row.{RowRefuses, IsRow}
+use Rattle.cue_row.specs.Kinds.{IsEmptySet, IsFullSet, IsRowKind}
+use Rattle.cue_row.specs.Row.{RowRefusesQuestion, IsRow}
 use Rattle.cue_row.specs.ValidRow.{IsValidRow, UsualFits, LabelsFit, IsWordStep}
 use Rattle.cue_lattice.specs.Path.{label, index}
 use Rattle.store_facts.proofs.Base.{a, b, number, text, in_range}
@@ -68,7 +68,7 @@ all_but_null_is_no_full_set : IsFullSet (record full_set { null = false }) → �
 all_but_null_is_no_full_set h = h scalars.Null refl
 
 -- ---- what rows refuse
-a_free_row_refuses_nothing : (question : Question) → RowRefuses (free_row Optional) question → ⊥
+a_free_row_refuses_nothing : (question : Question) → RowRefusesQuestion (free_row Optional) question → ⊥
 a_free_row_refuses_nothing (may_be x) h = the_full_set_refuses_no_scalar x h
 a_free_row_refuses_nothing (usual x) h = the_full_set_refuses_no_scalar x h
 a_free_row_refuses_nothing struct h = false≢true (sym h)
@@ -79,21 +79,21 @@ a_free_row_refuses_nothing (length_at_most n) h = omega (arith, h)
 a_free_row_refuses_nothing (length_at_least n) h = h
 
 -- a: _
-a_given_row_refuses_lower_levels : RowRefuses (free_row Given) (level_at_most 0) × RowRefuses (free_row Given) (level_at_most 1)
+a_given_row_refuses_lower_levels : RowRefusesQuestion (free_row Given) (level_at_most 0) × RowRefusesQuestion (free_row Given) (level_at_most 1)
 a_given_row_refuses_lower_levels = (lit< tt, lit< tt)
 
 -- a!: _
-a_required_row_refuses_level_0 : RowRefuses (free_row Required) (level_at_most 0)
+a_required_row_refuses_level_0 : RowRefusesQuestion (free_row Required) (level_at_most 0)
 a_required_row_refuses_level_0 = lit< tt
 
-and_not_level_1 : RowRefuses (free_row Required) (level_at_most 1) → ⊥
+and_not_level_1 : RowRefusesQuestion (free_row Required) (level_at_most 1) → ⊥
 and_not_level_1 h = omega (arith, h)
 
-a_scalar_row_refuses : RowRefuses one (may_be (number 2)) × RowRefuses one (usual (number 2)) × RowRefuses one struct × RowRefuses one list
+a_scalar_row_refuses : RowRefusesQuestion one (may_be (number 2)) × RowRefusesQuestion one (usual (number 2)) × RowRefusesQuestion one struct × RowRefusesQuestion one list
 a_scalar_row_refuses = ((in_range 2 (lit< tt), refl), (in_range 2 (lit< tt), refl), refl, refl)
 
-and_not_its_own_scalar : (RowRefuses one (may_be (number 1)) ⊎ (RowRefuses one (usual (number 1))
-    ⊎ (RowRefuses one (allows a) ⊎ (RowRefuses one (length_at_most 0) ⊎ RowRefuses one (length_at_least 9))))) → ⊥
+and_not_its_own_scalar : (RowRefusesQuestion one (may_be (number 1)) ⊎ (RowRefusesQuestion one (usual (number 1))
+    ⊎ (RowRefusesQuestion one (allows a) ⊎ (RowRefusesQuestion one (length_at_most 0) ⊎ RowRefusesQuestion one (length_at_least 9))))) → ⊥
 and_not_its_own_scalar (inl h) = false≢true (sym h.1)
 and_not_its_own_scalar (inr (inl h)) = false≢true (sym h.1)
 and_not_its_own_scalar (inr (inr (inl h))) = false≢true (sym h)
@@ -101,42 +101,42 @@ and_not_its_own_scalar (inr (inr (inr (inl h)))) = omega (arith, h)
 and_not_its_own_scalar (inr (inr (inr (inr h)))) = h
 
 -- a: *1 | 2 has one usual scalar of two
-a_default_is_usual : RowRefuses (scalar_row Given (record (just 1) { ints = (pos 1, pos 2) ∷ [] }) (just 1)) (usual (number 2))
+a_default_is_usual : RowRefusesQuestion (scalar_row Given (record (just 1) { ints = (pos 1, pos 2) ∷ [] }) (just 1)) (usual (number 2))
 a_default_is_usual = (in_range 2 (lit< tt), refl)
 
-and_the_other_may_stand : RowRefuses (scalar_row Given (record (just 1) { ints = (pos 1, pos 2) ∷ [] }) (just 1)) (may_be (number 2)) → ⊥
+and_the_other_may_stand : RowRefusesQuestion (scalar_row Given (record (just 1) { ints = (pos 1, pos 2) ∷ [] }) (just 1)) (may_be (number 2)) → ⊥
 and_the_other_may_stand h = false≢true (sym h.1)
 
-a_closed_struct_refuses : RowRefuses closed_struct (allows b) × RowRefuses closed_struct list × RowRefuses closed_struct (may_be scalars.Null)
+a_closed_struct_refuses : RowRefusesQuestion closed_struct (allows b) × RowRefusesQuestion closed_struct list × RowRefusesQuestion closed_struct (may_be scalars.Null)
 a_closed_struct_refuses = (refl, refl, refl)
 
-and_not_its_own_label : (RowRefuses closed_struct (allows a) ⊎ RowRefuses closed_struct struct) → ⊥
+and_not_its_own_label : (RowRefusesQuestion closed_struct (allows a) ⊎ RowRefusesQuestion closed_struct struct) → ⊥
 and_not_its_own_label (inl h) = false≢true (sym h)
 and_not_its_own_label (inr h) = false≢true (sym h)
 
-an_open_struct_refuses_no_label : RowRefuses (struct_row Given None) (allows b) → ⊥
+an_open_struct_refuses_no_label : RowRefusesQuestion (struct_row Given None) (allows b) → ⊥
 an_open_struct_refuses_no_label h = false≢true (sym h)
 
-a_list_refuses_other_lengths : RowRefuses two_elements (length_at_most 1) × RowRefuses two_elements (length_at_least 3)
-    × RowRefuses two_elements struct × RowRefuses two_elements (may_be (text a))
+a_list_refuses_other_lengths : RowRefusesQuestion two_elements (length_at_most 1) × RowRefusesQuestion two_elements (length_at_least 3)
+    × RowRefusesQuestion two_elements struct × RowRefusesQuestion two_elements (may_be (text a))
 a_list_refuses_other_lengths = (lit< tt, lit< tt, refl, refl)
 
-and_not_its_own : (RowRefuses two_elements (length_at_most 2) ⊎ (RowRefuses two_elements (length_at_least 2) ⊎ RowRefuses two_elements list)) → ⊥
+and_not_its_own : (RowRefusesQuestion two_elements (length_at_most 2) ⊎ (RowRefusesQuestion two_elements (length_at_least 2) ⊎ RowRefusesQuestion two_elements list)) → ⊥
 and_not_its_own (inl h) = omega (arith, h)
 and_not_its_own (inr (inl h)) = omega (arith, h)
 and_not_its_own (inr (inr h)) = false≢true (sym h)
 
 -- [_, ...]
-an_open_list_refuses_no_greater_length : RowRefuses (list_row Given 1 None) (length_at_least 9) → ⊥
+an_open_list_refuses_no_greater_length : RowRefusesQuestion (list_row Given 1 None) (length_at_least 9) → ⊥
 an_open_list_refuses_no_greater_length h = h
 
-a_row_of_nothing_refuses : RowRefuses (nothing_row Given None 0 None) struct × RowRefuses (nothing_row Given None 0 None) list
-    × RowRefuses (nothing_row Given None 0 None) (may_be scalars.Null)
+a_row_of_nothing_refuses : RowRefusesQuestion (nothing_row Given None 0 None) struct × RowRefusesQuestion (nothing_row Given None 0 None) list
+    × RowRefusesQuestion (nothing_row Given None 0 None) (may_be scalars.Null)
 a_row_of_nothing_refuses = (refl, refl, refl)
 
 -- ---- kinds
-each_of_its_kind : IsKind (free_row Given) kinds.Free × IsKind one kinds.Scalar × IsKind closed_struct kinds.Struct
-    × IsKind two_elements kinds.List × IsKind (nothing_row Given None 0 None) kinds.Nothing
+each_of_its_kind : IsRowKind (free_row Given) kinds.Free × IsRowKind one kinds.Scalar × IsRowKind closed_struct kinds.Struct
+    × IsRowKind two_elements kinds.List × IsRowKind (nothing_row Given None 0 None) kinds.Nothing
 each_of_its_kind = (
   (the_full_set_refuses_no_scalar, refl, refl),
   (one_integer_is_no_empty_set 1 refl, refl, refl),
@@ -145,14 +145,14 @@ each_of_its_kind = (
   (no_scalar_is_in_the_empty_set, refl, refl),
 )
 
-and_of_no_other : (IsKind one kinds.Free ⊎ (IsKind one kinds.Nothing ⊎ (IsKind closed_struct kinds.List ⊎ IsKind two_elements kinds.Struct))) → ⊥
+and_of_no_other : (IsRowKind one kinds.Free ⊎ (IsRowKind one kinds.Nothing ⊎ (IsRowKind closed_struct kinds.List ⊎ IsRowKind two_elements kinds.Struct))) → ⊥
 and_of_no_other (inl h) = false≢true h.1
 and_of_no_other (inr (inl h)) = one_integer_is_no_empty_set 1 refl h.0
 and_of_no_other (inr (inr (inl h))) = false≢true (sym h.1)
 and_of_no_other (inr (inr (inr h))) = false≢true h.1
 
 -- where a struct or a scalar may stand there is no kind
-two_kinds_are_none : (kind : RowKind) → IsKind (record one { struct_ok = true }) kind → ⊥
+two_kinds_are_none : (kind : RowKind) → IsRowKind (record one { struct_ok = true }) kind → ⊥
 two_kinds_are_none kinds.Free h = false≢true h.2
 two_kinds_are_none kinds.Scalar h = false≢true (sym h.1)
 two_kinds_are_none kinds.Struct h = one_integer_is_no_empty_set 1 refl h.0
@@ -231,7 +231,7 @@ a_length_of_65537_is_not h = omega (arith, h.limits)
 
 a_default_that_may_not_stand_is_not : IsValidRow (scalar_row Given (just 1) (just 2)) → ⊥
 a_default_that_may_not_stand_is_not h = by h.kind h.is_kind h.usual where
-  by : (kind : RowKind) → IsKind (scalar_row Given (just 1) (just 2)) kind → UsualFits (scalar_row Given (just 1) (just 2)) kind → ⊥
+  by : (kind : RowKind) → IsRowKind (scalar_row Given (just 1) (just 2)) kind → UsualFits (scalar_row Given (just 1) (just 2)) kind → ⊥
   by kinds.Free is fits = false≢true is.1
   by kinds.Scalar is fits = false≢true (fits (number 2) refl)
   by kinds.Struct is fits = false≢true is.1
@@ -240,7 +240,7 @@ a_default_that_may_not_stand_is_not h = by h.kind h.is_kind h.usual where
 
 labels_below_a_scalar_are_not : IsValidRow (record one { labels = Some (a ∷ []) }) → ⊥
 labels_below_a_scalar_are_not h = by h.kind h.is_kind h.labels where
-  by : (kind : RowKind) → IsKind (record one { labels = Some (a ∷ []) }) kind → LabelsFit (record one { labels = Some (a ∷ []) }) kind → ⊥
+  by : (kind : RowKind) → IsRowKind (record one { labels = Some (a ∷ []) }) kind → LabelsFit (record one { labels = Some (a ∷ []) }) kind → ⊥
   by kinds.Free is fits = false≢true is.1
   by kinds.Scalar is fits = cc
   by kinds.Struct is fits = false≢true is.1

@@ -6,7 +6,7 @@ use Rattle.std.proofs.lemmas.Int.{ints}
 use Rattle.cue_lattice.specs.declared.scalar.Scalar.TheVariants as scalars
 use Rattle.cue_lattice.specs.Scalar.{IsScalar}
 use Rattle.cue_scalars.specs.declared.scalar_set.ScalarSet.{ScalarSet}
-use Rattle.cue_scalars.specs.Scalars.{members, IsScalarSet, RefusesScalar, kind, IsBefore, IsWithin}
+use Rattle.cue_scalars.specs.Scalars.{members, IsScalarSet, RefusesScalar, kind, IsScalarBefore, IsScalarsWithin}
 use Rattle.store_facts.proofs.Base.{a, b, number, text, in_range}
 
 -- null, true, 1 to 3, and all texts but a
@@ -50,18 +50,18 @@ five_kinds : (kind scalars.Null ≡ 0) × (kind (scalars.Bool false) ≡ 1) × (
     × (kind (text a) ≡ 4)
 five_kinds = (refl, refl, refl, refl, refl)
 
-kinds_rise : IsBefore scalars.Null (scalars.Bool false) × IsBefore (scalars.Bool false) (scalars.Bool true)
-    × IsBefore (scalars.Bool true) (scalars.Int (negsuc 4)) × IsBefore (number 9) (text [])
+kinds_rise : IsScalarBefore scalars.Null (scalars.Bool false) × IsScalarBefore (scalars.Bool false) (scalars.Bool true)
+    × IsScalarBefore (scalars.Bool true) (scalars.Int (negsuc 4)) × IsScalarBefore (number 9) (text [])
 kinds_rise = (lit< tt, lit< tt, lit< tt, lit< tt)
 
-integers_rise : IsBefore (scalars.Int (negsuc 0)) (number 0) × IsBefore (number 2) (number 10)
+integers_rise : IsScalarBefore (scalars.Int (negsuc 0)) (number 0) × IsScalarBefore (number 2) (number 10)
 integers_rise = (omega (arith, ints), omega (arith, ints))
 
-texts_rise_by_bytes : IsBefore (text (codes "10")) (text (codes "2"))
+texts_rise_by_bytes : IsScalarBefore (text (codes "10")) (text (codes "2"))
 texts_rise_by_bytes = refl
 
-what_is_not_before : (IsBefore (text a) scalars.Null ⊎ (IsBefore (number 10) (number 2)
-    ⊎ (IsBefore (number 2) (number 2) ⊎ IsBefore (text b) (text a)))) → ⊥
+what_is_not_before : (IsScalarBefore (text a) scalars.Null ⊎ (IsScalarBefore (number 10) (number 2)
+    ⊎ (IsScalarBefore (number 2) (number 2) ⊎ IsScalarBefore (text b) (text a)))) → ⊥
 what_is_not_before (inl h) = omega (arith, h)
 what_is_not_before (inr (inl h)) = omega (arith, ints, h)
 what_is_not_before (inr (inr (inl h))) = omega (arith, ints, h)
@@ -71,20 +71,20 @@ what_is_not_before (inr (inr (inr h))) = cc
 abbrev null_and_a : ScalarSet
 null_and_a = record { null = true; no = false; yes = false; ints = []; texts = (false, a ∷ []) }
 
-with_true : IsWithin null_and_a (record null_and_a { yes = true })
+with_true : IsScalarsWithin null_and_a (record null_and_a { yes = true })
 with_true scalars.Null h = refl
 with_true (scalars.Bool false) h = h
 with_true (scalars.Bool true) h = refl
 with_true (scalars.Int n) h = h
 with_true (scalars.Text t) h = h
 
-the_larger_is_not_within : IsWithin (record null_and_a { yes = true }) null_and_a → ⊥
+the_larger_is_not_within : IsScalarsWithin (record null_and_a { yes = true }) null_and_a → ⊥
 the_larger_is_not_within h = false≢true (h (scalars.Bool true) refl)
 
-nor_with_other_texts : IsWithin null_and_a (record null_and_a { texts = (true, a ∷ []) }) → ⊥
+nor_with_other_texts : IsScalarsWithin null_and_a (record null_and_a { texts = (true, a ∷ []) }) → ⊥
 nor_with_other_texts h = false≢true (h (text a) refl)
 
-nor_with_fewer_integers : IsWithin (record null_and_a { ints = (pos 1, pos 3) ∷ [] }) (record null_and_a { ints = (pos 1, pos 2) ∷ [] }) → ⊥
+nor_with_fewer_integers : IsScalarsWithin (record null_and_a { ints = (pos 1, pos 3) ∷ [] }) (record null_and_a { ints = (pos 1, pos 2) ∷ [] }) → ⊥
 nor_with_fewer_integers h = false≢true (h (number 3) refl)
 
 -- ---- the scalars of the language

@@ -9,13 +9,13 @@ use Rattle.cue_row.specs.declared.parts.RowParts.{RowParts as Row}
 use Rattle.cue_row.specs.Made.{free_row, scalar_row, struct_row, list_row, nothing_row}
 use Rattle.cue_table.specs.Tree.{Tree, node, none, child, no_rest, onward, empty}
 use Rattle.cue_codec.specs.declared.version.Version.TheVariants as versions
-use Rattle.cue_codec.specs.Version.{version_byte, IsNoVersion, written}
-use Rattle.cue_codec.specs.Entry.{at, to_rest, entries_of, IsToldIn}
+use Rattle.cue_codec.specs.Version.{version_byte, IsNoVersion, written_version}
+use Rattle.cue_codec.specs.Entry.{at, to_rest, entries_of, CanHoldTable}
 use Rattle.cue_codec.specs.Parts.{integer_bytes, counted_bytes, piece_bytes, text_bytes, flags, text_set_bytes, set_bytes, labels_bytes, most_bytes, index_bytes, lengths_bytes, step_bytes, path_bytes}
-use Rattle.cue_codec.specs.RowBytes.{scalars_bytes, left_out_bytes, parts_bytes, row_bytes, parts_of}
-use Rattle.cue_codec.specs.State.{mark, state_bytes, table_bytes_in, table_bytes}
-use Rattle.cue_codec.specs.Size.{saturated, size_of}
-use Rattle.cue_codec.specs.Decoding.{IsOtherVersion, IsNoState, IsRejected, BeginsAsState}
+use Rattle.cue_codec.specs.RowBytes.{scalars_bytes, left_out_bytes, row_part_bytes, row_bytes, parts_of_row}
+use Rattle.cue_codec.specs.State.{state_mark, state_bytes, table_bytes_in, table_bytes}
+use Rattle.cue_codec.specs.Size.{at_most_64_bits, size_of}
+use Rattle.cue_codec.specs.Decoding.{IsOtherStateVersion, IsNoState, IsRejected, HasStateHead}
 use Rattle.cue_codec.specs.Pieces.{so_far, other_version, failed, IsIntake, IsTakenIn, IsFilled}
 use Rattle.store_facts.proofs.Base.{a, b}
 use Rattle.store_facts.proofs.Tables.{leaf, root, a_is_one}
@@ -38,7 +38,7 @@ version_1 =
     0x00 ∷ 0x00 ∷ 0x00 ∷ 0x00 ∷ 0x00 ∷ 0x00 ∷ 0x00 ∷ 0x00 ∷ 0x00 ∷ []
 
 pub a_is_one_in_version_1 : table_bytes_in versions.First a_is_one ≡ version_1
-unfolding state_bytes row_bytes path_bytes step_bytes text_bytes parts_bytes scalars_bytes set_bytes text_set_bytes labels_bytes piece_bytes integer_bytes counted_bytes lengths_bytes index_bytes most_bytes
+unfolding state_bytes row_bytes path_bytes step_bytes text_bytes row_part_bytes scalars_bytes set_bytes text_set_bytes labels_bytes piece_bytes integer_bytes counted_bytes lengths_bytes index_bytes most_bytes
 a_is_one_in_version_1 = refl
 
 -- in version 2
@@ -59,7 +59,7 @@ version_2 =
     0x00 ∷ 0x00 ∷ 0x00 ∷ 0x00 ∷ 0x00 ∷ 0x00 ∷ 0x00 ∷ 0x00 ∷ 0x00 ∷ []
 
 pub a_is_one_in_version_2 : table_bytes_in versions.Second a_is_one ≡ version_2
-unfolding state_bytes row_bytes path_bytes step_bytes text_bytes parts_bytes scalars_bytes set_bytes text_set_bytes labels_bytes piece_bytes integer_bytes counted_bytes lengths_bytes index_bytes most_bytes
+unfolding state_bytes row_bytes path_bytes step_bytes text_bytes row_part_bytes scalars_bytes set_bytes text_set_bytes labels_bytes piece_bytes integer_bytes counted_bytes lengths_bytes index_bytes most_bytes
 a_is_one_in_version_2 = refl
 
 abbrev all_integers : ScalarSet
@@ -88,24 +88,24 @@ a_rest_in_version_2 : table_bytes_in versions.Second l_is_a_list ≡
     0x80 ∷ 0x00 ∷ 0x00 ∷ 0x00 ∷ 0x00 ∷ 0x00 ∷ 0x00 ∷ 0x00 ∷
     0x7f ∷ 0xff ∷ 0xff ∷ 0xff ∷ 0xff ∷ 0xff ∷ 0xff ∷ 0xff ∷
     0x00 ∷ 0x00 ∷ 0x00 ∷ 0x00 ∷ 0x00 ∷ 0x00 ∷ 0x00 ∷ 0x00 ∷ 0x00 ∷ []
-unfolding state_bytes row_bytes path_bytes step_bytes text_bytes parts_bytes scalars_bytes set_bytes text_set_bytes labels_bytes piece_bytes integer_bytes counted_bytes lengths_bytes index_bytes most_bytes
+unfolding state_bytes row_bytes path_bytes step_bytes text_bytes row_part_bytes scalars_bytes set_bytes text_set_bytes labels_bytes piece_bytes integer_bytes counted_bytes lengths_bytes index_bytes most_bytes
 a_rest_in_version_2 = refl
 
 bytes_of_versions : (version_byte versions.First ≡ 1) × (version_byte versions.Second ≡ 2)
 bytes_of_versions = (refl, refl)
 
-version_2_is_written : (table_bytes a_is_one ≡ table_bytes_in versions.Second a_is_one) × (written ≡ versions.Second)
+version_2_is_written : (table_bytes a_is_one ≡ table_bytes_in versions.Second a_is_one) × (written_version ≡ versions.Second)
 version_2_is_written = (refl, refl)
 
 -- no row
 nothing_is_known : table_bytes empty ≡ 0xfe ∷ 0x43 ∷ 0x55 ∷ 0x45 ∷ 0x02 ∷ 0x00 ∷ 0x00 ∷ 0x00 ∷ 0x00 ∷ 0x00 ∷ 0x00 ∷ 0x00 ∷ 0x00 ∷ []
-unfolding state_bytes row_bytes path_bytes step_bytes text_bytes parts_bytes scalars_bytes set_bytes text_set_bytes labels_bytes piece_bytes integer_bytes counted_bytes lengths_bytes index_bytes most_bytes
+unfolding state_bytes row_bytes path_bytes step_bytes text_bytes row_part_bytes scalars_bytes set_bytes text_set_bytes labels_bytes piece_bytes integer_bytes counted_bytes lengths_bytes index_bytes most_bytes
 nothing_is_known = refl
 
-version_1_tells_no_rest : IsToldIn versions.First l_is_a_list → ⊥
+version_1_tells_no_rest : CanHoldTable versions.First l_is_a_list → ⊥
 version_1_tells_no_rest h = h.1.1.0.1.0
 
-version_2_tells_it : IsToldIn versions.Second l_is_a_list
+version_2_tells_it : CanHoldTable versions.Second l_is_a_list
 version_2_tells_it = (tt, ((tt, tt), ((tt, (tt, tt)), tt)))
 
 -- in version 2 with the index from which elements are alike
@@ -154,65 +154,65 @@ unfolding path_bytes step_bytes text_bytes
 paths_with_their_length = refl
 
 -- anything, a closed struct, and a list of conflicting lengths of which nothing may stand
-kinds_and_what_they_leave_open : (parts_bytes versions.Second (parts_of (free_row Given) 0) ≡ 0x00 ∷ [])
-    × (parts_bytes versions.Second (parts_of (struct_row Given (Some (a ∷ []))) 0) ≡ 0x02 ∷ 0x01 ∷ 0x00 ∷ 0x00 ∷ 0x00 ∷ 0x00 ∷ 0x00 ∷ 0x00 ∷ 0x00 ∷ 0x01 ∷ 0x00 ∷ 0x01 ∷ 0x61 ∷ [])
-    × (parts_bytes versions.Second (parts_of (list_row Given 1 None) 1) ≡ 0x03 ∷ 0x00 ∷ 0x00 ∷ 0x00 ∷ 0x01 ∷ 0x00 ∷ 0x00 ∷ 0x00 ∷ 0x00 ∷ 0x01 ∷ [])
-    × (parts_bytes versions.Second (parts_of (nothing_row Given None 0 None) 0) ≡ 0x04 ∷ 0x00 ∷ 0x00 ∷ 0x00 ∷ 0x00 ∷ 0x00 ∷ 0x00 ∷ 0x00 ∷ 0x00 ∷ 0x00 ∷ 0x00 ∷ [])
-unfolding parts_bytes labels_bytes counted_bytes text_bytes lengths_bytes most_bytes index_bytes left_out_bytes
+kinds_and_what_they_leave_open : (row_part_bytes versions.Second (parts_of_row (free_row Given) 0) ≡ 0x00 ∷ [])
+    × (row_part_bytes versions.Second (parts_of_row (struct_row Given (Some (a ∷ []))) 0) ≡ 0x02 ∷ 0x01 ∷ 0x00 ∷ 0x00 ∷ 0x00 ∷ 0x00 ∷ 0x00 ∷ 0x00 ∷ 0x00 ∷ 0x01 ∷ 0x00 ∷ 0x01 ∷ 0x61 ∷ [])
+    × (row_part_bytes versions.Second (parts_of_row (list_row Given 1 None) 1) ≡ 0x03 ∷ 0x00 ∷ 0x00 ∷ 0x00 ∷ 0x01 ∷ 0x00 ∷ 0x00 ∷ 0x00 ∷ 0x00 ∷ 0x01 ∷ [])
+    × (row_part_bytes versions.Second (parts_of_row (nothing_row Given None 0 None) 0) ≡ 0x04 ∷ 0x00 ∷ 0x00 ∷ 0x00 ∷ 0x00 ∷ 0x00 ∷ 0x00 ∷ 0x00 ∷ 0x00 ∷ 0x00 ∷ 0x00 ∷ [])
+unfolding row_part_bytes labels_bytes counted_bytes text_bytes lengths_bytes most_bytes index_bytes left_out_bytes
 kinds_and_what_they_leave_open = (refl, refl, refl, refl)
 
 -- ---- sizes
 ninety_two_bytes : size_of (table_bytes a_is_one) ≡ 92
-unfolding state_bytes row_bytes path_bytes step_bytes text_bytes parts_bytes scalars_bytes set_bytes text_set_bytes labels_bytes piece_bytes integer_bytes counted_bytes lengths_bytes index_bytes most_bytes
+unfolding state_bytes row_bytes path_bytes step_bytes text_bytes row_part_bytes scalars_bytes set_bytes text_set_bytes labels_bytes piece_bytes integer_bytes counted_bytes lengths_bytes index_bytes most_bytes
 ninety_two_bytes = refl
 
-sizes_have_64_bits : (saturated 18446744073709551615 ≡ 18446744073709551615) × (saturated 18446744073709551616 ≡ 18446744073709551615)
+sizes_have_64_bits : (at_most_64_bits 18446744073709551615 ≡ 18446744073709551615) × (at_most_64_bits 18446744073709551616 ≡ 18446744073709551615)
 sizes_have_64_bits = (refl, refl)
 
 -- ---- bytes that are none
-pub the_version_3_is_another : IsOtherVersion (mark ++ 3 ∷ [])
+pub the_version_3_is_another : IsOtherStateVersion (state_mark ++ 3 ∷ [])
 the_version_3_is_another = (3, [], refl, none) where
   none : IsNoVersion 3
   none versions.First e = cc
   none versions.Second e = cc
 
-the_version_2_is_none_other : IsOtherVersion (mark ++ 2 ∷ []) → ⊥
+the_version_2_is_none_other : IsOtherStateVersion (state_mark ++ 2 ∷ []) → ⊥
 the_version_2_is_none_other (version, rest, e, other) = let is : version ≡ 2 = cc in other versions.Second is
 
-bytes_without_the_mark_are_no_other_version : IsOtherVersion (3 ∷ []) → ⊥
+bytes_without_the_mark_are_no_other_version : IsOtherStateVersion (3 ∷ []) → ⊥
 bytes_without_the_mark_are_no_other_version (version, rest, e, other) = cc
 
-a_mark_alone_is_no_state : IsNoState mark
+a_mark_alone_is_no_state : IsNoState state_mark
 unfolding state_bytes
 a_mark_alone_is_no_state tree valid (version, told, e) = cc
 
-pub another_version_is_rejected_as_that : IsRejected (mark ++ 3 ∷ []) refusals.Version
+pub another_version_is_rejected_as_that : IsRejected (state_mark ++ 3 ∷ []) refusals.Version
 another_version_is_rejected_as_that = inl (refl, the_version_3_is_another)
 
-and_not_as_no_state : IsRejected (mark ++ 3 ∷ []) refusals.NotState → ⊥
+and_not_as_no_state : IsRejected (state_mark ++ 3 ∷ []) refusals.NotState → ⊥
 and_not_as_no_state (inl h) = let e = h.0 in cc
 and_not_as_no_state (inr h) = h.1 the_version_3_is_another
 
-a_mark_alone_is_rejected : IsRejected mark refusals.NotState
+a_mark_alone_is_rejected : IsRejected state_mark refusals.NotState
 a_mark_alone_is_rejected = inr (refl, no_version, a_mark_alone_is_no_state) where
-  no_version : IsOtherVersion mark → ⊥
+  no_version : IsOtherStateVersion state_mark → ⊥
   no_version (version, rest, e, other) = cc
 
 -- the mark, the version and a count begin a state, whatever follows
-a_count_begins_a_state : BeginsAsState (0xfe ∷ 0x43 ∷ 0x55 ∷ 0x45 ∷ 0x01 ∷ 0x00 ∷ 0x00 ∷ 0x00 ∷ 0x00 ∷ 0x00 ∷ 0x00 ∷ 0x01 ∷ 0x02 ∷ 0x77 ∷ [])
+a_count_begins_a_state : HasStateHead (0xfe ∷ 0x43 ∷ 0x55 ∷ 0x45 ∷ 0x01 ∷ 0x00 ∷ 0x00 ∷ 0x00 ∷ 0x00 ∷ 0x00 ∷ 0x00 ∷ 0x01 ∷ 0x02 ∷ 0x77 ∷ [])
 a_count_begins_a_state = (versions.First, 258, 0x77 ∷ [], refl)
 
-a_version_without_a_count_does_not : BeginsAsState (mark ++ 2 ∷ 0 ∷ []) → ⊥
+a_version_without_a_count_does_not : HasStateHead (state_mark ++ 2 ∷ 0 ∷ []) → ⊥
 a_version_without_a_count_does_not (version, count, rest, e) = cc
 
 -- ---- bytes in pieces
 pieces_are_put_together : IsTakenIn (so_far (0xfe ∷ 0x43 ∷ [])) (0x55 ∷ []) (so_far (0xfe ∷ 0x43 ∷ 0x55 ∷ []))
 pieces_are_put_together = refl
 
-what_was_handed_is_taken_in : IsIntake mark (so_far mark)
+what_was_handed_is_taken_in : IsIntake state_mark (so_far state_mark)
 what_was_handed_is_taken_in = refl
 
-nothing_was_where_memory_ran_out : IsIntake mark failed → ⊥
+nothing_was_where_memory_ran_out : IsIntake state_mark failed → ⊥
 nothing_was_where_memory_ran_out h = h
 
 a_fault_stands : IsTakenIn other_version (0x55 ∷ []) other_version
@@ -221,7 +221,7 @@ a_fault_stands = refl
 and_is_not_left : IsTakenIn other_version (0x55 ∷ []) (so_far (0x55 ∷ [])) → ⊥
 and_is_not_left h = cc
 
-another_version_is_met : IsTakenIn (so_far mark) (3 ∷ []) other_version
+another_version_is_met : IsTakenIn (so_far state_mark) (3 ∷ []) other_version
 another_version_is_met = the_version_3_is_another
 
 as_much_as_fits_is_filled : IsFilled (1 ∷ 2 ∷ 3 ∷ []) (9 ∷ 9 ∷ []) 2 (3 ∷ []) (1 ∷ 2 ∷ [])

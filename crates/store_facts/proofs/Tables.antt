@@ -16,11 +16,11 @@ use Rattle.cue_row.specs.declared.parts.RowParts.{RowParts as Row}
 use Rattle.cue_row.specs.declared.question.Question.TheVariants as asks
 use Rattle.cue_row.specs.Made.{free_row, struct_row, list_row}
 use Rattle.cue_row.specs.Steps.{IsWithinDepth}
-use Rattle.cue_row.specs.Row.{Refuses, IsRow}
+use Rattle.cue_row.specs.Row.{RefusesAsked, IsRow}
 use Rattle.cue_row.specs.ValidRow.{IsValidRow, IsWordStep}
 use Rattle.cue_table.specs.Tree.{Tree, node, none, child, no_rest, onward, row_of, if_equal, branch_at}
-use Rattle.cue_table.specs.Form.{IsKept}
-use Rattle.cue_table.specs.Valid.{Stands, EachRow, MayHold, HasElements, HasOpenRoot, further, IsValidTable}
+use Rattle.cue_table.specs.Form.{IsRowKept}
+use Rattle.cue_table.specs.Valid.{IsPlaceThere, EachRow, MayHold, HasElements, HasOpenRoot, path_below, IsValidTable}
 use Rattle.store_facts.proofs.Base.{a, b}
 use Rattle.store_facts.proofs.Rows.{one, sets_are_in_their_one_form, one_is_valid, an_open_struct_is_valid, an_optional_free_row_is_not, no_scalar_is_in_the_empty_set, one_integer_is_no_empty_set}
 
@@ -40,7 +40,7 @@ abbrev pub a_is_one : Tree Row
 a_is_one = file (leaf one)
 
 -- ---- the rows of a file of one field stand at the root and at a
-pub where_rows_stand : (row : Row) (path : Path) (found : Row) → Stands (file (leaf row)) path found
+pub where_rows_stand : (row : Row) (path : Path) (found : Row) → IsPlaceThere (file (leaf row)) path found
     → ((path ≡ []) × (found ≡ root)) ⊎ ((path ≡ label a ∷ []) × (found ≡ row))
 where_rows_stand row [] found h = inl (refl, cc)
 where_rows_stand row (index n ∷ path) found h = cc
@@ -70,10 +70,10 @@ no_step [] step e = cc
 no_step (x ∷ path) step e = cc
 
 -- the only row below another one
-below_the_root : (path : Path) (step : Step) (found : Row) → Stands a_is_one (further path step) found
+below_the_root : (path : Path) (step : Step) (found : Row) → IsPlaceThere a_is_one (path_below path step) found
     → (path ≡ []) × (step ≡ label a) × (found ≡ one)
-below_the_root path step found h = by (where_rows_stand one (further path step) found h) where
-  by : ((further path step ≡ []) × (found ≡ root)) ⊎ ((further path step ≡ label a ∷ []) × (found ≡ one))
+below_the_root path step found h = by (where_rows_stand one (path_below path step) found h) where
+  by : ((path_below path step ≡ []) × (found ≡ root)) ⊎ ((path_below path step ≡ label a ∷ []) × (found ≡ one))
       → (path ≡ []) × (step ≡ label a) × (found ≡ one)
   by (inl (p, f)) = absurd (no_step path step p)
   by (inr (p, f)) = let s = one_step path step (label a) p in (s.0, s.1, f)
@@ -86,27 +86,27 @@ no_index : (n : ℕ) → index n ≡ label a → ⊥
 no_index n e = cc
 
 -- both rows are kept
-root_is_kept : IsKept Refuses IsRow root
+root_is_kept : IsRowKept RefusesAsked IsRow root
 root_is_kept = (record { value = record { ints = tt; texts = tt }; usual = record { ints = tt; texts = tt }; labels = tt }, λ free. free asks.List refl)
 
-one_is_kept : IsKept Refuses IsRow one
+one_is_kept : IsRowKept RefusesAsked IsRow one
 one_is_kept = (sets_are_in_their_one_form, λ free. free asks.Struct refl)
 
-may_hold : (path : Path) (step : Step) (parent found : Row) → Stands a_is_one path parent → Stands a_is_one (further path step) found
+may_hold : (path : Path) (step : Step) (parent found : Row) → IsPlaceThere a_is_one path parent → IsPlaceThere a_is_one (path_below path step) found
     → MayHold parent step
 may_hold path step parent found p h = by (below_the_root path step found h) where
   by : (path ≡ []) × (step ≡ label a) × (found ≡ one) → MayHold parent step
   by (e, s, f) =
-      let above : Stands a_is_one [] parent = subst (λ x. Stands a_is_one x parent) e p in
+      let above : IsPlaceThere a_is_one [] parent = subst (λ x. IsPlaceThere a_is_one x parent) e p in
       let is : root ≡ parent = cc in
       subst (MayHold parent) (sym s) (subst (λ x. MayHold x (label a)) is (inl (no_scalar_is_in_the_empty_set, refl, refl)))
 
 alike : HasElements a_is_one
 alike path found i j h _ _ = by (where_rows_stand one path found h) where
   by : ((path ≡ []) × (found ≡ root)) ⊎ ((path ≡ label a ∷ []) × (found ≡ one))
-      → branch_at a_is_one (further path (index i)) ≡ branch_at a_is_one (further path (index j))
-  by (inl (p, f)) = subst (λ x. branch_at a_is_one (further x (index i)) ≡ branch_at a_is_one (further x (index j))) (sym p) refl
-  by (inr (p, f)) = subst (λ x. branch_at a_is_one (further x (index i)) ≡ branch_at a_is_one (further x (index j))) (sym p) refl
+      → branch_at a_is_one (path_below path (index i)) ≡ branch_at a_is_one (path_below path (index j))
+  by (inl (p, f)) = subst (λ x. branch_at a_is_one (path_below x (index i)) ≡ branch_at a_is_one (path_below x (index j))) (sym p) refl
+  by (inr (p, f)) = subst (λ x. branch_at a_is_one (path_below x (index i)) ≡ branch_at a_is_one (path_below x (index j))) (sym p) refl
 
 pub a_is_one_is_valid : IsValidTable a_is_one
 a_is_one_is_valid = record {
@@ -118,7 +118,7 @@ a_is_one_is_valid = record {
   root_level = λ found h. let e : root ≡ found = cc in subst (λ x. x.level ≡ Optional) e refl;
   element_levels = λ path n found h. absurd (no_index n (below_the_root path (index n) found h).1);
   parents = λ path step found h.
-      (root, subst (λ p. Stands a_is_one p root) (sym (below_the_root path step found h).0) refl);
+      (root, subst (λ p. IsPlaceThere a_is_one p root) (sym (below_the_root path step found h).0) refl);
   kinds = may_hold;
   elements = alike;
 }
@@ -130,7 +130,7 @@ a_scalar_at_the_root_is_not_valid h = by h.root where
   by : HasOpenRoot (leaf one) → ⊥
   by (inl e) = cc
   by (inr (row, stands, opens)) = false≢true (subst (λ x. x.struct_ok ≡ true) (same row stands) opens.0.1) where
-    same : (row : Row) → Stands (leaf one) [] row → row ≡ one
+    same : (row : Row) → IsPlaceThere (leaf one) [] row → row ≡ one
     same row e = cc
 
 nor_is_a_closed_root : IsValidTable (leaf (struct_row Optional (Some (a ∷ [])))) → ⊥
@@ -185,7 +185,7 @@ nor_is_a_rest_behind_it h = let e = h.elements (label a ∷ []) two_or_more 2 3 
 
 nor_is_a_row_without_one_above : IsValidTable (file (node None (child (label b) (leaf one) none) no_rest)) → ⊥
 nor_is_a_row_without_one_above h = by (h.parents (label a ∷ []) (label b) one refl) where
-  by : (parent : Row) × Stands (file (node None (child (label b) (leaf one) none) no_rest)) (label a ∷ []) parent → ⊥
+  by : (parent : Row) × IsPlaceThere (file (node None (child (label b) (leaf one) none) no_rest)) (label a ∷ []) parent → ⊥
   by (parent, e) = cc
 
 -- a struct in a struct, so often

@@ -11,7 +11,7 @@ use Rattle.cue_lex.specs.Tokens.{tokens}
 use Rattle.cue_syntax.specs.Syntax.{FileTree, no_entries}
 use Rattle.cue_scope.specs.Refusing as checks
 use Rattle.cue_scope.specs.Graph.{IsReached, start, go_on}
-use Rattle.cue_replica.specs.Texts.{IsTreeOf, IsLegal, text_refuses, IsTokenFault, IsTextFault, IsTextRefusedAtOnce}
+use Rattle.cue_replica.specs.Texts.{IsTreeOf, IsLegalText, text_refuses, IsTokenFault, IsTextFault, IsTextRefusedAtOnce}
 use Rattle.cue_replica.specs.PrintedAgain.{IsOverLimit}
 
 abbrev no_tree : FileTree
@@ -29,7 +29,7 @@ nothing_is_reached : (j : ℕ) → IsReached [] [] j → ⊥
 nothing_is_reached j (start i h) = h
 nothing_is_reached j (go_on i k r p) = nothing_is_reached i r
 
-it_passes_each_check : checks.IsLegal no_entries
+it_passes_each_check : checks.IsLegalTree no_entries
 it_passes_each_check = record {
   small = record {
     scalar = record { ordered = record { named = record { unrepeated = refl; names = refl }; acyclic = λ i. nothing_is_reached i }; terms = refl };
@@ -38,7 +38,7 @@ it_passes_each_check = record {
   depth = lit≤ tt;
 }
 
-it_is_legal : IsLegal []
+it_is_legal : IsLegalText []
 unfolding is_utf8 chars encode
 it_is_legal = (no_tree, the_empty_text_is_the_tree_of_nothing, it_passes_each_check, IsUtf8-from_is_utf8 [] refl)
 
@@ -55,7 +55,7 @@ a_longer_text_is_too_long text long = (no_memory, rw long refl) where
 and_so_has_a_fault : (text : List ℕ) → length text ≡ 1048577 → IsTextFault text (refusal_at kinds.TooLong 1048576)
 and_so_has_a_fault text long = inl (a_longer_text_is_too_long text long)
 
-and_is_no_legal_one : (text : List ℕ) → length text ≡ 1048577 → IsLegal text → ⊥
+and_is_no_legal_one : (text : List ℕ) → length text ≡ 1048577 → IsLegalText text → ⊥
 and_is_no_legal_one text long (tree, is, legal, utf8) =
     let lexed = is.lexed in let fault = (a_longer_text_is_too_long text long).1 in cc
 

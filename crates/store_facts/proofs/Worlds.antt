@@ -6,7 +6,7 @@ use Rattle.cue_lattice.specs.declared.scalar.Scalar.TheVariants as scalars
 use Rattle.cue_lattice.specs.Refusal.{refusal_at, memory}
 use Rattle.cue_lattice.specs.Question.{struct, list}
 use Rattle.cue_lattice.specs.Document.{scalar, map, no_members}
-use Rattle.cue_lattice.specs.World.{text, state, Meaning, IsSound, IsExactOnDocuments, pieces_refuse, IsAdmitted, Has, SamePieces, Event, submit, send, deliver, foreign, Outcome, accepted, sent, refused, no_such, start, after, reach, IsThere, IsAnswer, IsStarved, IsOutcome, AreOutcomes, AllAlong, IsUnified, IsMessageOf}
+use Rattle.cue_lattice.specs.World.{text, state, Meaning, IsSoundLanguage, IsExactOnDocuments, pieces_refuse, IsAdmitted, IsInSet, SamePieces, Event, submit, send, deliver, foreign, Outcome, accepted, sent, refused, no_such, start_sets, sets_after, reach_sets, IsThere, IsAnswerOutcome, IsStarved, IsEventOutcome, AreOutcomes, AllAlong, IsUnified, IsMessageOf}
 use Rattle.store_facts.proofs.Base.{a, b, c, other}
 
 -- The text a is legal, refuses structs and admits all; b has a fault at 0 that is found at once. The bytes c are a state that refuses lists.
@@ -29,7 +29,7 @@ small = record {
 }
 
 -- ---- what every language must keep to, and this one does not
-tables_with_equal_answers_are_equal : IsSound ℕ small → ⊥
+tables_with_equal_answers_are_equal : IsSoundLanguage ℕ small → ⊥
 tables_with_equal_answers_are_equal h = let e = h.one_table 0 1 tt tt (λ path question. ((λ r. r), (λ r. r))) in cc
 
 a_text_admits_what_meets_what_it_refuses : IsExactOnDocuments ℕ small → ⊥
@@ -38,12 +38,12 @@ a_text_admits_what_meets_what_it_refuses h = ((h.of_texts a (map no_members) tt)
 -- ---- sets of pieces
 order_and_repetition_do_not_count : SamePieces (text a ∷ state c ∷ []) (state c ∷ text a ∷ text a ∷ [])
 order_and_repetition_do_not_count piece = (there, back) where
-  there : Has (text a ∷ state c ∷ []) piece → Has (state c ∷ text a ∷ text a ∷ []) piece
+  there : IsInSet (text a ∷ state c ∷ []) piece → IsInSet (state c ∷ text a ∷ text a ∷ []) piece
   there (inl e) = inr (inl e)
   there (inr (inl e)) = inl e
   there (inr (inr h)) = absurd h
 
-  back : Has (state c ∷ text a ∷ text a ∷ []) piece → Has (text a ∷ state c ∷ []) piece
+  back : IsInSet (state c ∷ text a ∷ text a ∷ []) piece → IsInSet (text a ∷ state c ∷ []) piece
   back (inl e) = inr (inl e)
   back (inr (inl e)) = inl e
   back (inr (inr (inl e))) = inl e
@@ -51,7 +51,7 @@ order_and_repetition_do_not_count piece = (there, back) where
 
 a_piece_less_does : SamePieces (text a ∷ []) (text a ∷ state a ∷ []) → ⊥
 a_piece_less_does h = by ((h (state a)).1 (inr (inl refl))) where
-  by : Has (text a ∷ []) (state a) → ⊥
+  by : IsInSet (text a ∷ []) (state a) → ⊥
   by (inl e) = cc
   by (inr h) = h
 
@@ -74,19 +74,19 @@ events = submit 0 a ∷ send 0 ∷ deliver 1 0 ∷ deliver 1 0 ∷ foreign 1 c �
 abbrev outcomes : List Outcome
 outcomes = accepted ∷ sent 0 ∷ accepted ∷ accepted ∷ accepted ∷ sent 1 ∷ []
 
-what_the_sites_have_taken : reach (start 2) events outcomes ≡ record {
+what_the_sites_have_taken : reach_sets (start_sets 2) events outcomes ≡ record {
   sites = (text a ∷ []) ∷ (text a ∷ text a ∷ state c ∷ []) ∷ [];
   messages = (text a ∷ []) ∷ (text a ∷ text a ∷ state c ∷ []) ∷ [];
 }
 what_the_sites_have_taken = refl
 
-what_is_refused_changes_nothing : after (start 2) (submit 0 b) (refused (refusal_at kinds.Syntax 0)) ≡ start 2
+what_is_refused_changes_nothing : sets_after (start_sets 2) (submit 0 b) (refused (refusal_at kinds.Syntax 0)) ≡ start_sets 2
 what_is_refused_changes_nothing = refl
 
-at_the_start_there_is_nothing : start 2 ≡ record { sites = [] ∷ [] ∷ []; messages = [] }
+at_the_start_there_is_nothing : start_sets 2 ≡ record { sites = [] ∷ [] ∷ []; messages = [] }
 at_the_start_there_is_nothing = refl
 
-these_outcomes_may_come : AreOutcomes small (start 2) events outcomes
+these_outcomes_may_come : AreOutcomes small (start_sets 2) events outcomes
 these_outcomes_may_come = (
   inl (lit< tt, inl refl),
   (
@@ -98,24 +98,24 @@ these_outcomes_may_come = (
   ),
 )
 
-each_event_has_one_outcome : AreOutcomes small (start 2) (send 0 ∷ []) [] → ⊥
+each_event_has_one_outcome : AreOutcomes small (start_sets 2) (send 0 ∷ []) [] → ⊥
 each_event_has_one_outcome h = h
 
-a_fault_is_told : IsOutcome small (start 1) (submit 0 b) (refused (refusal_at kinds.Syntax 0))
+a_fault_is_told : IsEventOutcome small (start_sets 1) (submit 0 b) (refused (refusal_at kinds.Syntax 0))
 a_fault_is_told = inl (lit< tt, inl (refl, refl))
 
-and_not_as_accepted : IsOutcome small (start 1) (submit 0 b) accepted → ⊥
+and_not_as_accepted : IsEventOutcome small (start_sets 1) (submit 0 b) accepted → ⊥
 and_not_as_accepted (inl (there, inl e)) = other b a refl e
 and_not_as_accepted (inl (there, inr starved)) = let e = starved.0 in cc
 and_not_as_accepted (inr (gone, e)) = gone (lit< tt)
 
-a_legal_text_has_no_fault : (why : Refusal) → IsAnswer small (start 1) (submit 0 a) (refused why) → ⊥
+a_legal_text_has_no_fault : (why : Refusal) → IsAnswerOutcome small (start_sets 1) (submit 0 a) (refused why) → ⊥
 a_legal_text_has_no_fault why h = other a b refl h.0
 
-no_message_is_refused : (why : Refusal) → IsAnswer small (start 2) (deliver 1 0) (refused why) → ⊥
+no_message_is_refused : (why : Refusal) → IsAnswerOutcome small (start_sets 2) (deliver 1 0) (refused why) → ⊥
 no_message_is_refused why h = h
 
-messages_are_counted_from_0 : IsAnswer small (start 2) (send 0) (sent 1) → ⊥
+messages_are_counted_from_0 : IsAnswerOutcome small (start_sets 2) (send 0) (sent 1) → ⊥
 messages_are_counted_from_0 e = cc
 
 memory_may_run_out : IsStarved small (submit 0 a) (refused memory) × IsStarved small (deliver 0 0) (refused memory)
@@ -124,15 +124,15 @@ memory_may_run_out = ((refl, λ e. other a b refl e), (refl, λ h. h))
 but_hides_no_fault_that_is_found_at_once : IsStarved small (submit 0 b) (refused memory) → ⊥
 but_hides_no_fault_that_is_found_at_once h = h.1 refl
 
-a_site_that_is_not_there : IsOutcome small (start 2) (submit 2 a) no_such
+a_site_that_is_not_there : IsEventOutcome small (start_sets 2) (submit 2 a) no_such
 a_site_that_is_not_there = inr ((λ h. omega (arith, h)), refl)
 
-one_that_is : IsOutcome small (start 2) (submit 1 a) no_such → ⊥
+one_that_is : IsEventOutcome small (start_sets 2) (submit 1 a) no_such → ⊥
 one_that_is (inl (there, inl h)) = h
 one_that_is (inl (there, inr starved)) = let e = starved.0 in cc
 one_that_is (inr (gone, e)) = gone (lit< tt)
 
-no_message_is_there_at_the_start : IsThere (start 2) (deliver 0 0) → ⊥
+no_message_is_there_at_the_start : IsThere (start_sets 2) (deliver 0 0) → ⊥
 no_message_is_there_at_the_start h = omega (arith, h.1)
 
 -- ---- what a site holds

@@ -42,8 +42,8 @@ pub fn state_size(site: &Replica) -> u64 {
 /// The lines of a site's report.
 pub fn report(alloc: Global, site: &Replica) -> Result<String, Memory> {
     let mut lines = String::new(alloc);
-    site.tell_conflicts(alloc, &mut lines)?;
-    site.tell_gaps(alloc, &mut lines)?;
+    site.write_conflicts(alloc, &mut lines)?;
+    site.write_gaps(alloc, &mut lines)?;
     Ok(lines)
 }
 

@@ -85,7 +85,7 @@ fn sites_are_unified(rt: HostRuntime) -> Result<(), Fail> {
 /// The lines of the gaps of a site.
 fn gaps_told(alloc: Global, site: &Replica) -> Result<String, Memory> {
     let mut lines = String::new(alloc);
-    site.tell_gaps(alloc, &mut lines)?;
+    site.write_gaps(alloc, &mut lines)?;
     Ok(lines)
 }
 

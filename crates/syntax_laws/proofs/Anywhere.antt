@@ -14,7 +14,7 @@ use Rattle.cue_syntax.specs.declared.tree.Sign.{Sign}
 use Rattle.cue_syntax.specs.declared.tree.Sign.TheVariants as signs
 use Rattle.cue_syntax.specs.declared.tree.Signed.{Signed}
 use Rattle.cue_syntax.specs.Syntax.{Expression, name, integer, text, bottom, bound, other_integer, other_text, parenthesis, struct, close, list, conjunction, disjunction, Elements, no_elements, element, Branch, branch, Branches, no_branches, next_branch, Entry, ellipsis, field, definition, Entries, no_entries, entry, Rest, no_rest, any_rest, each_rest}
-use Rattle.cue_syntax.specs.Spelling.{Piece, Reads, Follows, StandsAt, IsPlace, one, one_at, placed, comma_if, star_if, identifier_kind, spell_sign, spell_signed, spell_mark, spell_label, spell_dots, spell_rest, spell, spell_elements, spell_more_elements, spell_branch, spell_branches, spell_more_branches, spell_entry, spell_entries, spell_more_entries, spell_package, spell_file}
+use Rattle.cue_syntax.specs.Spelling.{SpelledPiece, SpellsTree, Follows, BeginsAtEach, IsTokenPlace, one, one_at, place_first, comma_if, star_if, identifier_kind, spell_sign, spell_signed, spell_mark, spell_label, spell_dots, spell_rest, spell, spell_elements, spell_more_elements, spell_branch, spell_branches, spell_more_branches, spell_entry, spell_entries, spell_more_entries, spell_package, spell_file}
 use Rattle.cue_syntax.specs.Grammar.{Limit, Within, IsRightPackage, AreRightEntries, EndsEntries, levels_of_entries}
 use Rattle.cue_syntax.specs.Unplaced.{unplaced, unplaced_elements, unplaced_rest, unplaced_branch, unplaced_branches, unplaced_entry, unplaced_entries}
 use Rattle.cue_syntax.proofs.ReadingsJoin.{reads_then, reads_placed}
@@ -22,21 +22,21 @@ use Rattle.syntax_laws.specs.Places.{kinds_of, IsSpelledAnywhere}
 use Rattle.syntax_laws.proofs.Unplaced.{right_entries_same, levels_entries_same, package_same, comma_same}
 
 -- the tokens are of the kinds of these pieces, and then comes the rest
-abbrev Like : List Token → List Piece → List Token → Type 0
+abbrev Like : List Token → List SpelledPiece → List Token → Type 0
 Like tokens [] rest = tokens ≡ rest
 Like [] (piece ∷ pieces) rest = ⊥
 Like (token ∷ tokens) (piece ∷ pieces) rest = (token.kind ≡ piece.kind) × Like tokens pieces rest
 
-record ReadsLike (a : List Token) (p : List Piece) (b : List Token) : Type 0 where
+record ReadsLike (a : List Token) (p : List SpelledPiece) (b : List Token) : Type 0 where
   pub like : Like a p b
 
 -- a reading of two rows of pieces, cut between them
-record Cut (a : List Token) (p q : List Piece) (b : List Token) : Type 0 where
+record Cut (a : List Token) (p q : List SpelledPiece) (b : List Token) : Type 0 where
   pub middle : List Token
   pub left : ReadsLike a p middle
   pub right : ReadsLike middle q b
 
-cut : {a b : List Token} (p q : List Piece) → ReadsLike a (p ++ q) b → Cut a p q b
+cut : {a b : List Token} (p q : List SpelledPiece) → ReadsLike a (p ++ q) b → Cut a p q b
 cut {a = a} [] q l = record { middle = a; left = record { like = refl }; right = l }
 cut {a = []} (x ∷ p) q l = absurd l.like
 cut {a = t ∷ a} (x ∷ p) q l =
@@ -44,20 +44,20 @@ cut {a = t ∷ a} (x ∷ p) q l =
     record { middle = rest.middle; left = record { like = (l.like.0, rest.left.like) }; right = rest.right }
 
 -- pieces that keep no places
-abbrev Plain : List Piece → Type 0
+abbrev Plain : List SpelledPiece → Type 0
 Plain [] = ⊤
 Plain (piece ∷ pieces) = (piece.places ≡ []) × Plain pieces
 
-plain_then : (p q : List Piece) → Plain p → Plain q → Plain (p ++ q)
+plain_then : (p q : List SpelledPiece) → Plain p → Plain q → Plain (p ++ q)
 plain_then [] q first second = second
 plain_then (x ∷ p) q first second = (first.0, plain_then p q first.1 second)
 
-plain_follows : (a : List Token) (p : List Piece) (b : List Token) → Plain p → Like a p b → Follows a p b
+plain_follows : (a : List Token) (p : List SpelledPiece) (b : List Token) → Plain p → Like a p b → Follows a p b
 plain_follows a [] b known l = l
 plain_follows [] (x ∷ p) b known l = absurd l
-plain_follows (t ∷ a) (x ∷ p) b known l = (l.0, subst (StandsAt t) (sym known.0) tt, plain_follows a p b known.1 l.1)
+plain_follows (t ∷ a) (x ∷ p) b known l = (l.0, subst (BeginsAtEach t) (sym known.0) tt, plain_follows a p b known.1 l.1)
 
-plain_reads : {a b : List Token} (p : List Piece) → Plain p → ReadsLike a p b → Reads a p b
+plain_reads : {a b : List Token} (p : List SpelledPiece) → Plain p → ReadsLike a p b → SpellsTree a p b
 plain_reads {a = a} {b = b} p known l = record { follows = plain_follows a p b known l.like }
 
 plain_comma : (comma : Bool) → Plain (comma_if comma)
@@ -89,31 +89,31 @@ plain_labels [] = tt
 plain_labels (l ∷ ls) = plain_then (spell_label l) (flat_map spell_label ls) (plain_label l) (plain_labels ls)
 
 -- declarations in braces
-abbrev spell_braces : Bool → Entries → List Piece
+abbrev spell_braces : Bool → Entries → List SpelledPiece
 spell_braces comma es = one (kinds.Mark points.OpenBrace) ++ spell_entries es ++ comma_if comma ++ one (kinds.Mark points.CloseBrace)
 
 -- which tokens the `...` of a list is spelled with does not depend on the places in its elements
-dots_reads : {a b : List Token} (es fs : Elements) → unplaced_elements fs ≡ unplaced_elements es → ReadsLike a (spell_dots es) b → Reads a (spell_dots fs) b
+dots_reads : {a b : List Token} (es fs : Elements) → unplaced_elements fs ≡ unplaced_elements es → ReadsLike a (spell_dots es) b → SpellsTree a (spell_dots fs) b
 dots_reads no_elements no_elements alike l = plain_reads (spell_dots no_elements) (refl, tt) l
 dots_reads no_elements (element f fs) alike l = absurd (let h : element (unplaced f) (unplaced_elements fs) ≡ no_elements = alike in cc)
 dots_reads (element e es) no_elements alike l = absurd (let h : no_elements ≡ element (unplaced e) (unplaced_elements es) = alike in cc)
 dots_reads (element e es) (element f fs) alike l = plain_reads (spell_dots (element e es)) (refl, (refl, tt)) l
 
 -- a part that is spelled so, and is another one but for places
-record Other (A : Type 0) (spelled : A → List Piece) (bare : A → A) (whole : A) (a b : List Token) : Type 0 where
+record Other (A : Type 0) (spelled : A → List SpelledPiece) (bare : A → A) (whole : A) (a b : List Token) : Type 0 where
   pub part : A
-  pub reads : Reads a (spelled part) b
+  pub reads : SpellsTree a (spelled part) b
   pub same : bare part ≡ bare whole
 
 abbrev place_at : List Token → ℕ
 place_at [] = 0
 place_at (t ∷ ts) = t.from
 
-is_place : (a : List Token) → IsPlace a (place_at a)
+is_place : (a : List Token) → IsTokenPlace a (place_at a)
 is_place [] = tt
 is_place (t ∷ ts) = refl
 
-unplaced_like : (a b : List Token) (p : List Piece) (from : ℕ) → Like a (placed from p) b → Like a p b
+unplaced_like : (a b : List Token) (p : List SpelledPiece) (from : ℕ) → Like a (place_first from p) b → Like a p b
 unplaced_like a b [] from l = l
 unplaced_like [] b (x ∷ p) from l = l
 unplaced_like (t ∷ a) b (x ∷ p) from l = l
@@ -121,19 +121,19 @@ unplaced_like (t ∷ a) b (x ∷ p) from l = l
 -- a token that keeps its place
 record Named (k : TokenKind) (a b : List Token) : Type 0 where
   pub from : ℕ
-  pub reads : Reads a (one_at from k) b
+  pub reads : SpellsTree a (one_at from k) b
 
 named_at : (k : TokenKind) (from : ℕ) (a b : List Token) → Like a (one_at from k) b → Named k a b
 named_at k from [] b l = absurd l
 named_at k from (t ∷ a) b l = record { from = t.from; reads = record { follows = (l.0, (refl, tt), l.1) } }
 
-abbrev mark : Punctuation → List Piece
+abbrev mark : Punctuation → List SpelledPiece
 mark m = one (kinds.Mark m)
 
-mark_reads : {a b : List Token} (m : Punctuation) → ReadsLike a (mark m) b → Reads a (mark m) b
+mark_reads : {a b : List Token} (m : Punctuation) → ReadsLike a (mark m) b → SpellsTree a (mark m) b
 mark_reads m l = plain_reads (mark m) (refl, tt) l
 
-comma_reads : {a b : List Token} (comma : Bool) → ReadsLike a (comma_if comma) b → Reads a (comma_if comma) b
+comma_reads : {a b : List Token} (comma : Bool) → ReadsLike a (comma_if comma) b → SpellsTree a (comma_if comma) b
 comma_reads comma l = plain_reads (comma_if comma) (plain_comma comma) l
 
 mutual
@@ -175,7 +175,7 @@ mutual
       let middle = cut (mark points.OpenBrace ++ spell_entries es) (comma_if comma) last.left in
       let head = cut (mark points.OpenBrace) (spell_entries es) middle.left in
       let inner = place_entries es head.right in
-      let braces : Reads second.middle (spell_braces comma inner.part) third.middle =
+      let braces : SpellsTree second.middle (spell_braces comma inner.part) third.middle =
       reads_then (reads_then (reads_then (mark_reads points.OpenBrace head.left) inner.reads) (comma_reads comma middle.right)) (mark_reads points.CloseBrace last.right) in
       record {
         part = close called.from inner.part comma outer;
@@ -237,7 +237,7 @@ mutual
 
   place_branch : (b : Branch) {a c : List Token} → ReadsLike a (spell_branch b) c → Other Branch spell_branch unplaced_branch b a c
   place_branch (branch marked from e) {c = c} l =
-      let first = cut (star_if marked) (placed from (spell e)) l in
+      let first = cut (star_if marked) (place_first from (spell e)) l in
       let inner = place e (record { like = unplaced_like first.middle c (spell e) from first.right.like }) in
       record {
         part = branch marked (place_at first.middle) inner.part;
@@ -324,7 +324,7 @@ plain_package None = tt
 plain_package (Some clause) = (refl, (refl, plain_comma clause.comma))
 
 -- tokens of the same kinds as others that are read
-like_others : (a c d : List Token) (p : List Piece) → kinds_of a ≡ kinds_of c → Follows c p d → d ≡ [] → Like a p []
+like_others : (a c d : List Token) (p : List SpelledPiece) → kinds_of a ≡ kinds_of c → Follows c p d → d ≡ [] → Like a p []
 like_others [] [] d [] kinds follows none = refl
 like_others (t ∷ a) [] d p alike follows none = absurd (let e : t.kind ∷ kinds_of a ≡ [] = alike in cc)
 like_others [] (u ∷ c) d p alike follows none = absurd (let e : [] ≡ u.kind ∷ kinds_of c = alike in cc)

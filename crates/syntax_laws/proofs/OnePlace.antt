@@ -7,13 +7,13 @@ use Rattle.cue_lattice.specs.declared.refusal.Kind.{Kind}
 use Rattle.cue_lattice.specs.declared.refusal.Kind.TheVariants as refusals
 use Rattle.cue_lex.specs.declared.token.Token.{Token}
 use Rattle.cue_syntax.specs.Grammar.{unlimited, at_most}
-use Rattle.cue_syntax.specs.Viability.{Leaves, Stands, IsMark, place_of}
-use Rattle.cue_syntax.specs.Refusals.{OwesLevel, BeginsWithin, NestsAt, FitsAt, Fits, LeavesAt, IsNamed, IsKindAfter, StandsAfter}
+use Rattle.cue_syntax.specs.Viability.{Leaves, IsTokenAt, IsMark, place_of_symbol}
+use Rattle.cue_syntax.specs.Refusals.{OwesLevel, BeginsWithin, NestsAt, FitsRefusalAt, FitsRefusal, LeavesAt, IsSymbolNamed, IsKindAfter, FormIsAfter}
 use Rattle.cue_syntax.proofs.TakenBeginsAText.{fewer}
 use Rattle.syntax_laws.specs.OnePlace.{AgreeOn, FitsOnePlace}
 
 -- what fits tells of nesting, or of where the tokens leave the grammar
-either : (levels : ℕ) (tokens : List Token) (kind : Kind) (j : ℕ) → FitsAt levels tokens kind j → ((kind ≡ refusals.Nesting) × NestsAt levels tokens j) ⊎ LeavesAt levels tokens kind j
+either : (levels : ℕ) (tokens : List Token) (kind : Kind) (j : ℕ) → FitsRefusalAt levels tokens kind j → ((kind ≡ refusals.Nesting) × NestsAt levels tokens j) ⊎ LeavesAt levels tokens kind j
 either levels tokens refusals.Nesting j fits = inl (refl, fits)
 either levels tokens _ j fits = inr fits
 
@@ -29,7 +29,7 @@ same_leaving {k = k} {n = n} first second = elim (cases_order k n) [
 ]
 
 -- and there one symbol is named
-same_named : {tokens : List Token} {k i j : ℕ} → IsNamed tokens k i → IsNamed tokens k j → i ≡ j
+same_named : {tokens : List Token} {k i j : ℕ} → IsSymbolNamed tokens k i → IsSymbolNamed tokens k j → i ≡ j
 same_named {tokens = tokens} {k = k} {i = i} {j = j} (inl a) (inl b) = omega (arith, a.0, b.0)
 same_named {tokens = tokens} {k = k} {i = i} {j = j} (inr a) (inr b) = a.0 ∙ sym b.0
 same_named {tokens = tokens} {k = k} {i = i} {j = j} (inl a) (inr b) = absurd (b.1 i a.0 a.1)
@@ -38,7 +38,7 @@ same_named {tokens = tokens} {k = k} {i = i} {j = j} (inr a) (inl b) = absurd (a
 -- where no form stands, none is told
 syntax_too : (j : ℕ) (tokens : List Token) (a b : Kind) → a ≡ refusals.Syntax → IsKindAfter j tokens a → IsKindAfter j tokens b → b ≡ refusals.Syntax
 syntax_too j tokens a refusals.Syntax is first second = refl
-syntax_too j tokens a (refusals.LeftOut form) is first second = let none : (f : Form) → ¬ StandsAfter j tokens f = subst (IsKindAfter j tokens) is first in absurd (none form second)
+syntax_too j tokens a (refusals.LeftOut form) is first second = let none : (f : Form) → ¬ FormIsAfter j tokens f = subst (IsKindAfter j tokens) is first in absurd (none form second)
 syntax_too j tokens a _ is first second = absurd second
 
 -- fewer tokens open no more levels
@@ -61,8 +61,8 @@ same_opening a b = elim (cases_order a.k b.k) [
   | inr (inr e) ↦ absurd (no_further b a.within e)
 ]
 
-same_opener : {i j : ℕ} (k : ℕ) (tokens : List Token) → ((i ≡ k) × ¬ Stands IsMark (drop k tokens)) ⊎ ((suc i ≡ k) × Stands IsMark (drop k tokens))
-    → ((j ≡ k) × ¬ Stands IsMark (drop k tokens)) ⊎ ((suc j ≡ k) × Stands IsMark (drop k tokens)) → i ≡ j
+same_opener : {i j : ℕ} (k : ℕ) (tokens : List Token) → ((i ≡ k) × ¬ IsTokenAt IsMark (drop k tokens)) ⊎ ((suc i ≡ k) × IsTokenAt IsMark (drop k tokens))
+    → ((j ≡ k) × ¬ IsTokenAt IsMark (drop k tokens)) ⊎ ((suc j ≡ k) × IsTokenAt IsMark (drop k tokens)) → i ≡ j
 same_opener k tokens (inl a) (inl b) = a.0 ∙ sym b.0
 same_opener k tokens (inl a) (inr b) = absurd (a.1 b.1)
 same_opener k tokens (inr a) (inl b) = absurd (b.1 a.1)
@@ -70,7 +70,7 @@ same_opener k tokens (inr a) (inr b) = omega (arith, a.0, b.0)
 
 same_nesting : {levels i j : ℕ} {tokens : List Token} → NestsAt levels tokens i → NestsAt levels tokens j → i ≡ j
 same_nesting {j = j} {tokens = tokens} a b =
-    same_opener a.k tokens a.named (subst (λ n. ((j ≡ n) × ¬ Stands IsMark (drop n tokens)) ⊎ ((suc j ≡ n) × Stands IsMark (drop n tokens))) (sym (same_opening a b)) b.named)
+    same_opener a.k tokens a.named (subst (λ n. ((j ≡ n) × ¬ IsTokenAt IsMark (drop n tokens)) ⊎ ((suc j ≡ n) × IsTokenAt IsMark (drop n tokens))) (sym (same_opening a b)) b.named)
 
 -- and not where the tokens leave the grammar first, nor before they do
 apart : {levels i j : ℕ} {tokens : List Token} {kind : Kind} → NestsAt levels tokens i → LeavesAt levels tokens kind j → ⊥
@@ -83,11 +83,11 @@ apart {tokens = tokens} nests leaves = elim (cases_order leaves.k nests.k) [
 other_kinds : refusals.Nesting ≡ refusals.Syntax → ⊥
 other_kinds e = cc
 
-both : {levels end : ℕ} {tokens : List Token} {a b : Refusal} (first : Fits levels end tokens a) (second : Fits levels end tokens b)
+both : {levels end : ℕ} {tokens : List Token} {a b : Refusal} (first : FitsRefusal levels end tokens a) (second : FitsRefusal levels end tokens b)
     → ((a.kind ≡ refusals.Nesting) × NestsAt levels tokens first.j) ⊎ LeavesAt levels tokens a.kind first.j
     → ((b.kind ≡ refusals.Nesting) × NestsAt levels tokens second.j) ⊎ LeavesAt levels tokens b.kind second.j → AgreeOn a b
 both {end = end} {tokens = tokens} first second (inl n) (inl m) = record {
-  place = first.place ∙ ap (λ k. place_of end (drop k tokens)) (same_nesting n.1 m.1) ∙ sym second.place;
+  place = first.place ∙ ap (λ k. place_of_symbol end (drop k tokens)) (same_nesting n.1 m.1) ∙ sym second.place;
   kind = λ is. absurd (other_kinds (sym n.0 ∙ is));
   nesting = λ is. m.0;
 }
@@ -95,9 +95,9 @@ both first second (inl n) (inr m) = absurd (apart n.1 m)
 both first second (inr l) (inl n) = absurd (apart n.1 l)
 both {end = end} {tokens = tokens} {a = a} {b = b} first second (inr l) (inr m) =
     let k : m.k ≡ l.k = same_leaving m.leaves l.leaves in
-    let j : first.j ≡ second.j = same_named l.named (subst (λ n. IsNamed tokens n second.j) k m.named) in
+    let j : first.j ≡ second.j = same_named l.named (subst (λ n. IsSymbolNamed tokens n second.j) k m.named) in
     record {
-      place = first.place ∙ ap (λ n. place_of end (drop n tokens)) j ∙ sym second.place;
+      place = first.place ∙ ap (λ n. place_of_symbol end (drop n tokens)) j ∙ sym second.place;
       kind = λ is. syntax_too second.j tokens a.kind b.kind is (subst (λ n. IsKindAfter n tokens a.kind) j l.told) m.told;
       nesting = λ is. absurd (subst (IsKindAfter first.j tokens) is l.told);
     }

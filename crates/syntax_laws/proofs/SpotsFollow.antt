@@ -4,14 +4,14 @@ use Rattle.std.specs.Prelude.{if◌then◌else◌}
 use Rattle.cue_lex.specs.declared.token.Token.{Token}
 use Rattle.cue_lex.specs.declared.token.TokenKind.TheVariants as kinds
 use Rattle.cue_lex.specs.declared.punctuation.Punctuation.TheVariants as points
-use Rattle.cue_syntax.specs.declared.spot.Spot.{Spot}
-use Rattle.cue_syntax.specs.declared.spot.Spot.TheVariants as spots
+use Rattle.cue_syntax.specs.declared.spot.Position.{Position}
+use Rattle.cue_syntax.specs.declared.spot.Position.TheVariants as spots
 use Rattle.cue_syntax.specs.declared.spot.Inside.{Inside}
 use Rattle.cue_syntax.specs.Grammar.{unlimited}
-use Rattle.cue_syntax.specs.Viability.{Begins}
-use Rattle.cue_syntax.specs.Spots.{is_close, innermost, open_after, spot_after, spot_from, spot_of}
+use Rattle.cue_syntax.specs.Viability.{BeginsText}
+use Rattle.cue_syntax.specs.Spots.{is_close, innermost_open, open_after, spot_after, spot_from, spot_of}
 use Rattle.cue_syntax.specs.Forms.{IsOfLabel, IsOfOperand}
-use Rattle.cue_syntax.specs.Recogniser.{Stack, step, stuck, stuck_behind, is_over, is_keyword, text, package_word, package_end, entries, more_entries, mark, colon, value, value_name, value_text, chained, expression, term, unary, more_parts, bar, more_terms, signed, signed_or_text, magnitude, behind_close, closed, parenthesis, parenthesis_end, elements, more_elements, dots, bracket, bracket_end}
+use Rattle.cue_syntax.specs.Recogniser.{Stack, step_stack, rest_where_stuck, rest_where_stuck_behind, is_over, is_keyword, text, package_word, package_end, entries, more_entries, mark, colon, value, value_name, value_text, chained, expression, term, unary, more_parts, bar, more_terms, signed, signed_or_text, magnitude, behind_close, closed, parenthesis, parenthesis_end, elements, more_elements, dots, bracket, bracket_end}
 use Rattle.cue_syntax.proofs.NoTextWhereStuck.{stuck_begins_none, stuck_inside}
 use Rattle.cue_syntax.proofs.TakenBeginsAText.{begins, taken, fewer}
 use Rattle.syntax_laws.specs.Following.{BeginText, token_of, OperandNext, LabelNext, SpotsFollowTheGrammar}
@@ -19,54 +19,54 @@ use Rattle.syntax_laws.proofs.SpotsOfGoals.{Quiet, SpotTop, Afters, Shape, Fit, 
 
 -- the goals take all of the tokens
 abbrev Takes : Stack → List Token → Type 0
-Takes goals tokens = (stuck unlimited goals tokens ≡ None) ⊎ (stuck unlimited goals tokens ≡ Some [])
+Takes goals tokens = (rest_where_stuck unlimited goals tokens ≡ None) ⊎ (rest_where_stuck unlimited goals tokens ≡ Some [])
 
 -- the goals are stuck at one of the tokens
 record Stops (goals : Stack) (tokens : List Token) : Type 0 where
   pub token : Token
   pub behind : List Token
-  pub is : stuck unlimited goals tokens ≡ Some (token ∷ behind)
+  pub is : rest_where_stuck unlimited goals tokens ≡ Some (token ∷ behind)
 
 -- where the tokens lead from these goals and this spot
-record Leads (goals : Stack) (s : Spot) (opened : List Inside) (tokens : List Token) : Type 0 where
+record Leads (goals : Stack) (s : Position) (opened : List Inside) (tokens : List Token) : Type 0 where
   pub next : Stack
   pub shape : Shape next
   pub spot : SpotTop next (spot_from opened s tokens)
-  pub leads : (more : List Token) → stuck unlimited goals (tokens ++ more) ≡ stuck unlimited next more
+  pub leads : (more : List Token) → rest_where_stuck unlimited goals (tokens ++ more) ≡ rest_where_stuck unlimited next more
 
-taken_none : (goals : Stack) (t : Token) (ts : List Token) → step goals t.kind ≡ None → stuck unlimited goals (t ∷ ts) ≡ Some (t ∷ ts)
-taken_none goals t ts is = ap (λ o. stuck_behind unlimited o (t ∷ ts) (λ next. stuck unlimited next ts)) is
+taken_none : (goals : Stack) (t : Token) (ts : List Token) → step_stack goals t.kind ≡ None → rest_where_stuck unlimited goals (t ∷ ts) ≡ Some (t ∷ ts)
+taken_none goals t ts is = ap (λ o. rest_where_stuck_behind unlimited o (t ∷ ts) (λ next. rest_where_stuck unlimited next ts)) is
 
-taken_some : (goals next : Stack) (t : Token) (ts : List Token) → step goals t.kind ≡ Some next → stuck unlimited goals (t ∷ ts) ≡ stuck unlimited next ts
-taken_some goals next t ts is = ap (λ o. stuck_behind unlimited o (t ∷ ts) (λ n. stuck unlimited n ts)) is
+taken_some : (goals next : Stack) (t : Token) (ts : List Token) → step_stack goals t.kind ≡ Some next → rest_where_stuck unlimited goals (t ∷ ts) ≡ rest_where_stuck unlimited next ts
+taken_some goals next t ts is = ap (λ o. rest_where_stuck_behind unlimited o (t ∷ ts) (λ n. rest_where_stuck unlimited n ts)) is
 
-not_taken : (P : Type 0) (goals : Stack) (t : Token) (ts : List Token) → stuck unlimited goals (t ∷ ts) ≡ Some (t ∷ ts) → Takes goals (t ∷ ts) → P
+not_taken : (P : Type 0) (goals : Stack) (t : Token) (ts : List Token) → rest_where_stuck unlimited goals (t ∷ ts) ≡ Some (t ∷ ts) → Takes goals (t ∷ ts) → P
 not_taken P goals t ts is takes = absurd (elim takes [
   | inl e ↦ (let f : Some (t ∷ ts) ≡ None = sym is ∙ e in cc)
   | inr e ↦ (let f : Some (t ∷ ts) ≡ Some [] = sym is ∙ e in cc)
 ])
 
-leads : (tokens : List Token) (goals : Stack) (s : Spot) (opened : List Inside) → Fit goals opened s → Takes goals tokens → Leads goals s opened tokens
+leads : (tokens : List Token) (goals : Stack) (s : Position) (opened : List Inside) → Fit goals opened s → Takes goals tokens → Leads goals s opened tokens
 leads [] goals s opened fit takes = record { next = goals; shape = fit.shape; spot = fit.spot_is; leads = λ more. refl }
 leads (t ∷ ts) goals s opened fit takes =
-    by (step goals t.kind) refl (λ next fits rest. leads ts next (spot_after (innermost opened) s t.kind) (open_after opened t.kind) fits rest)
+    by (step_stack goals t.kind) refl (λ next fits rest. leads ts next (spot_after (innermost_open opened) s t.kind) (open_after opened t.kind) fits rest)
   where
-    by : (o : Option Stack) → step goals t.kind ≡ o
-        → ((next : Stack) → Fit next (open_after opened t.kind) (spot_after (innermost opened) s t.kind) → Takes next ts → Leads next (spot_after (innermost opened) s t.kind) (open_after opened t.kind) ts)
+    by : (o : Option Stack) → step_stack goals t.kind ≡ o
+        → ((next : Stack) → Fit next (open_after opened t.kind) (spot_after (innermost_open opened) s t.kind) → Takes next ts → Leads next (spot_after (innermost_open opened) s t.kind) (open_after opened t.kind) ts)
         → Leads goals s opened (t ∷ ts)
     by None is later = not_taken (Leads goals s opened (t ∷ ts)) goals t ts (taken_none goals t ts is) takes
     by (Some next) is later =
-        let fits : Fit next (open_after opened t.kind) (spot_after (innermost opened) s t.kind) =
-        subst (λ z. Fit next (open_after z t.kind) (spot_after (innermost z) s t.kind)) fit.opened_is (next_fit goals next s t.kind fit.shape fit.spot_is is) in
+        let fits : Fit next (open_after opened t.kind) (spot_after (innermost_open opened) s t.kind) =
+        subst (λ z. Fit next (open_after z t.kind) (spot_after (innermost_open z) s t.kind)) fit.opened_is (next_fit goals next s t.kind fit.shape fit.spot_is is) in
         let rest : Takes next ts = subst (λ z. (z ≡ None) ⊎ (z ≡ Some [])) (taken_some goals next t ts is) takes in
         let l = later next fits rest in
         record { next = l.next; shape = l.shape; spot = l.spot; leads = λ more. taken_some goals next t (ts ++ more) is ∙ l.leads more }
 
 -- tokens that begin a text are taken, and no others
 begin_taken : (tokens : List Token) → BeginText tokens → Takes (text ∷ []) tokens
-begin_taken tokens begun = by (stuck unlimited (text ∷ []) tokens) refl
+begin_taken tokens begun = by (rest_where_stuck unlimited (text ∷ []) tokens) refl
   where
-    by : (o : Option (List Token)) → stuck unlimited (text ∷ []) tokens ≡ o → Takes (text ∷ []) tokens
+    by : (o : Option (List Token)) → rest_where_stuck unlimited (text ∷ []) tokens ≡ o → Takes (text ∷ []) tokens
     by None is = inl is
     by (Some []) is = inr is
     by (Some (t ∷ here)) is =
@@ -76,7 +76,7 @@ begin_taken tokens begun = by (stuck unlimited (text ∷ []) tokens) refl
 taken_begins : (tokens : List Token) → Takes (text ∷ []) tokens → BeginText tokens
 taken_begins tokens takes = elim takes [
   | inl is ↦ (let t = taken unlimited tokens is in record { whole = tokens; tree = t.0; alike = refl; is = t.1 })
-  | inr is ↦ subst (λ n. Begins unlimited n tokens) (let e : length tokens - 0 ≡ length tokens = omega arith in e) (begins unlimited tokens [] is)
+  | inr is ↦ subst (λ n. BeginsText unlimited n tokens) (let e : length tokens - 0 ≡ length tokens = omega arith in e) (begins unlimited tokens [] is)
 ]
 
 stops_none : (tokens : List Token) → Stops (text ∷ []) tokens → ¬ BeginText tokens
@@ -93,19 +93,19 @@ end_takes goals = by (is_over goals) refl
     by true is = inl (ap (λ z. if z then None else Some []) is)
     by false is = inr (ap (λ z. if z then None else Some []) is)
 
-take_one : (goals next : Stack) (t : Token) → step goals t.kind ≡ Some next → Takes goals (t ∷ [])
+take_one : (goals next : Stack) (t : Token) → step_stack goals t.kind ≡ Some next → Takes goals (t ∷ [])
 take_one goals next t is = subst (λ z. (z ≡ None) ⊎ (z ≡ Some [])) (sym (taken_some goals next t [] is)) (end_takes next)
 
-take_two : (goals next last : Stack) (t u : Token) → step goals t.kind ≡ Some next → step next u.kind ≡ Some last → Takes goals (t ∷ u ∷ [])
+take_two : (goals next last : Stack) (t u : Token) → step_stack goals t.kind ≡ Some next → step_stack next u.kind ≡ Some last → Takes goals (t ∷ u ∷ [])
 take_two goals next last t u first second = subst (λ z. (z ≡ None) ⊎ (z ≡ Some [])) (sym (taken_some goals next t (u ∷ []) first)) (take_one next last u second)
 
-stop_first : (goals : Stack) (t : Token) (ts : List Token) → step goals t.kind ≡ None → Stops goals (t ∷ ts)
+stop_first : (goals : Stack) (t : Token) (ts : List Token) → step_stack goals t.kind ≡ None → Stops goals (t ∷ ts)
 stop_first goals t ts is = record { token = t; behind = ts; is = taken_none goals t ts is }
 
-stop_second : (goals next : Stack) (t u : Token) → step goals t.kind ≡ Some next → step next u.kind ≡ None → Stops goals (t ∷ u ∷ [])
+stop_second : (goals next : Stack) (t u : Token) → step_stack goals t.kind ≡ Some next → step_stack next u.kind ≡ None → Stops goals (t ∷ u ∷ [])
 stop_second goals next t u first second = record { token = u; behind = []; is = taken_some goals next t (u ∷ []) first ∙ taken_none next u [] second }
 
-bottom_none : (gs : Stack) → Afters gs → step gs kinds.Bottom ≡ None
+bottom_none : (gs : Stack) → Afters gs → step_stack gs kinds.Bottom ≡ None
 bottom_none [] a = refl
 bottom_none (more_parts ∷ gs) a = bottom_none gs a.1
 bottom_none (more_terms ∷ gs) a = bottom_none gs a.1
@@ -118,7 +118,7 @@ bottom_none (more_entries true ∷ gs) a = refl
 bottom_none (more_entries false ∷ gs) a = refl
 bottom_none (_ ∷ gs) a = absurd a.0
 
-string_none : (gs : Stack) → Afters gs → step gs (kinds.Text []) ≡ None
+string_none : (gs : Stack) → Afters gs → step_stack gs (kinds.Text []) ≡ None
 string_none [] a = refl
 string_none (more_parts ∷ gs) a = string_none gs a.1
 string_none (more_terms ∷ gs) a = string_none gs a.1
@@ -131,7 +131,7 @@ string_none (more_entries true ∷ gs) a = refl
 string_none (more_entries false ∷ gs) a = refl
 string_none (_ ∷ gs) a = absurd a.0
 
-definition_none : (gs : Stack) → Afters gs → step gs (kinds.Definition []) ≡ None
+definition_none : (gs : Stack) → Afters gs → step_stack gs (kinds.Definition []) ≡ None
 definition_none [] a = refl
 definition_none (more_parts ∷ gs) a = definition_none gs a.1
 definition_none (more_terms ∷ gs) a = definition_none gs a.1
@@ -144,7 +144,7 @@ definition_none (more_entries true ∷ gs) a = refl
 definition_none (more_entries false ∷ gs) a = refl
 definition_none (_ ∷ gs) a = absurd a.0
 
-colon_none : (gs : Stack) → Afters gs → step gs (kinds.Mark points.Colon) ≡ None
+colon_none : (gs : Stack) → Afters gs → step_stack gs (kinds.Mark points.Colon) ≡ None
 colon_none [] a = refl
 colon_none (more_parts ∷ gs) a = colon_none gs a.1
 colon_none (more_terms ∷ gs) a = colon_none gs a.1
@@ -175,30 +175,30 @@ string_label = token_of (kinds.Text []) ∷ token_of (kinds.Mark points.Colon) �
 abbrev definition_label : List Token
 definition_label = token_of (kinds.Definition []) ∷ token_of (kinds.Mark points.Colon) ∷ []
 
-quiet_bottom : (goals : Stack) (s : Spot) → Quiet s → step goals kinds.Bottom ≡ None → Told (IsOfOperand s) goals (bottom ∷ [])
+quiet_bottom : (goals : Stack) (s : Position) → Quiet s → step_stack goals kinds.Bottom ≡ None → Told (IsOfOperand s) goals (bottom ∷ [])
 quiet_bottom goals s quiet is = no quiet.0 (stop_first goals bottom [] is)
 
-quiet_label : (goals : Stack) (s : Spot) → Quiet s → step goals (kinds.Text []) ≡ None → Told (IsOfLabel s) goals string_label
+quiet_label : (goals : Stack) (s : Position) → Quiet s → step_stack goals (kinds.Text []) ≡ None → Told (IsOfLabel s) goals string_label
 quiet_label goals s quiet is = no quiet.1 (stop_first goals (token_of (kinds.Text [])) _ is)
 
 named : (b : Bool) → Quiet (if b then spots.CloseName else spots.Other)
 named true = (λ x. x, λ x. x)
 named false = (λ x. x, λ x. x)
 
-quiet_named : (t : List ℕ) (s : Spot) → s ≡ (if is_close t then spots.CloseName else spots.Other) → Quiet s
+quiet_named : (t : List ℕ) (s : Position) → s ≡ (if is_close t then spots.CloseName else spots.Other) → Quiet s
 quiet_named t s is = subst Quiet (sym is) (named (is_close t))
 
-quiet_close : (s : Spot) → s ≡ spots.CloseName → Quiet s
+quiet_close : (s : Position) → s ≡ spots.CloseName → Quiet s
 quiet_close s is = subst Quiet (sym is) (λ x. x, λ x. x)
 
 -- an operand
-of_top : (s : Spot) → s ≡ spots.Top → ¬ IsOfOperand s
+of_top : (s : Position) → s ≡ spots.Top → ¬ IsOfOperand s
 of_top s is = subst (λ z. ¬ IsOfOperand z) (sym is) (λ x. x)
 
-of_inner : (s : Spot) → s ≡ spots.Inner → ¬ IsOfOperand s
+of_inner : (s : Position) → s ≡ spots.Inner → ¬ IsOfOperand s
 of_inner s is = subst (λ z. ¬ IsOfOperand z) (sym is) (λ x. x)
 
-operand_told : (goals : Stack) (s : Spot) → Shape goals → SpotTop goals s → Told (IsOfOperand s) goals (bottom ∷ [])
+operand_told : (goals : Stack) (s : Position) → Shape goals → SpotTop goals s → Told (IsOfOperand s) goals (bottom ∷ [])
 operand_told [] s shape spot = quiet_bottom [] s spot refl
 operand_told (text ∷ gs) s shape spot = no (of_top s spot) (stop_first (text ∷ gs) bottom [] refl)
 operand_told (package_word ∷ gs) s shape spot = quiet_bottom (package_word ∷ gs) s spot refl
@@ -233,7 +233,7 @@ operand_told (bracket ∷ gs) s shape spot = quiet_bottom (bracket ∷ gs) s spo
 operand_told (bracket_end ∷ gs) s shape spot = quiet_bottom (bracket_end ∷ gs) s spot refl
 
 -- a label
-no_label : (s : Spot) → s ≡ spots.Operand → ¬ IsOfLabel s
+no_label : (s : Position) → s ≡ spots.Operand → ¬ IsOfLabel s
 no_label s is = subst (λ z. ¬ IsOfLabel z) (sym is) (λ x. x)
 
 abbrev string : Token
@@ -242,7 +242,7 @@ string = token_of (kinds.Text [])
 abbrev sign : Token
 sign = token_of (kinds.Mark points.Colon)
 
-label_told : (goals : Stack) (s : Spot) → Shape goals → SpotTop goals s → Told (IsOfLabel s) goals string_label
+label_told : (goals : Stack) (s : Position) → Shape goals → SpotTop goals s → Told (IsOfLabel s) goals string_label
 label_told [] s shape spot = quiet_label [] s spot refl
 label_told (text ∷ gs) s shape spot = yes (subst IsOfLabel (sym spot) tt) (take_two (text ∷ gs) (mark ∷ value ∷ more_entries true ∷ gs) (value ∷ more_entries true ∷ gs) string sign refl refl)
 label_told (package_word ∷ gs) s shape spot = quiet_label (package_word ∷ gs) s spot refl
@@ -280,22 +280,22 @@ label_told (bracket_end ∷ gs) s shape spot = quiet_label (bracket_end ∷ gs) 
 abbrev defined : Token
 defined = token_of (kinds.Definition [])
 
-quiet_top : (s : Spot) → Quiet s → s ≡ spots.Top → ⊥
+quiet_top : (s : Position) → Quiet s → s ≡ spots.Top → ⊥
 quiet_top s quiet is = quiet.1 (subst IsOfLabel (sym is) tt)
 
-inner_top : (s : Spot) → s ≡ spots.Inner → s ≡ spots.Top → ⊥
+inner_top : (s : Position) → s ≡ spots.Inner → s ≡ spots.Top → ⊥
 inner_top s is top = let e : spots.Inner ≡ spots.Top = sym is ∙ top in cc
 
-value_top : (s : Spot) → s ≡ spots.Value → s ≡ spots.Top → ⊥
+value_top : (s : Position) → s ≡ spots.Value → s ≡ spots.Top → ⊥
 value_top s is top = let e : spots.Value ≡ spots.Top = sym is ∙ top in cc
 
-operand_top : (s : Spot) → s ≡ spots.Operand → s ≡ spots.Top → ⊥
+operand_top : (s : Position) → s ≡ spots.Operand → s ≡ spots.Top → ⊥
 operand_top s is top = let e : spots.Operand ≡ spots.Top = sym is ∙ top in cc
 
-quiet_definition : (goals : Stack) (s : Spot) → Quiet s → step goals (kinds.Definition []) ≡ None → Told (s ≡ spots.Top) goals definition_label
+quiet_definition : (goals : Stack) (s : Position) → Quiet s → step_stack goals (kinds.Definition []) ≡ None → Told (s ≡ spots.Top) goals definition_label
 quiet_definition goals s quiet is = no (quiet_top s quiet) (stop_first goals defined _ is)
 
-definition_told : (goals : Stack) (s : Spot) → Shape goals → SpotTop goals s → Told (s ≡ spots.Top) goals definition_label
+definition_told : (goals : Stack) (s : Position) → Shape goals → SpotTop goals s → Told (s ≡ spots.Top) goals definition_label
 definition_told [] s shape spot = quiet_definition [] s spot refl
 definition_told (text ∷ gs) s shape spot = yes spot (take_two (text ∷ gs) (colon ∷ value ∷ more_entries true ∷ gs) (value ∷ more_entries true ∷ gs) defined sign refl refl)
 definition_told (package_word ∷ gs) s shape spot = quiet_definition (package_word ∷ gs) s spot refl
@@ -330,7 +330,7 @@ definition_told (bracket ∷ gs) s shape spot = quiet_definition (bracket ∷ gs
 definition_told (bracket_end ∷ gs) s shape spot = quiet_definition (bracket_end ∷ gs) s spot refl
 
 -- whole texts
-told_next : (P : Type 0) (before more : List Token) (next : Stack) → ((ts : List Token) → stuck unlimited (text ∷ []) (before ++ ts) ≡ stuck unlimited next ts) → Told P next more → P ↔ BeginText (before ++ more)
+told_next : (P : Type 0) (before more : List Token) (next : Stack) → ((ts : List Token) → rest_where_stuck unlimited (text ∷ []) (before ++ ts) ≡ rest_where_stuck unlimited next ts) → Told P next more → P ↔ BeginText (before ++ more)
 told_next P before more next leads (yes is takes) = (
   λ p. taken_begins (before ++ more) (subst (λ z. (z ≡ None) ⊎ (z ≡ Some [])) (sym (leads more)) takes),
   λ b. is,
@@ -340,7 +340,7 @@ told_next P before more next leads (no other stops) = (
   λ b. absurd (stops_none (before ++ more) (record { token = stops.token; behind = stops.behind; is = leads more ∙ stops.is }) b),
 )
 
-value_both : (s : Spot) → IsOfOperand s → IsOfLabel s → s ≡ spots.Value
+value_both : (s : Position) → IsOfOperand s → IsOfLabel s → s ≡ spots.Value
 value_both spots.Value operand label = refl
 value_both spots.Operand operand label = absurd label
 value_both _ operand label = absurd operand

@@ -5,15 +5,15 @@ use Rattle.cue_lex.specs.declared.token.Token.{Token}
 use Rattle.cue_lex.specs.declared.token.TokenKind.{TokenKind}
 use Rattle.cue_lex.specs.declared.token.TokenKind.TheVariants as kinds
 use Rattle.cue_lex.specs.declared.punctuation.Punctuation.TheVariants as points
-use Rattle.cue_syntax.specs.declared.spot.Spot.TheVariants as spots
+use Rattle.cue_syntax.specs.declared.spot.Position.TheVariants as spots
 use Rattle.cue_syntax.specs.Grammar.{unlimited}
-use Rattle.cue_syntax.specs.Viability.{Begins}
+use Rattle.cue_syntax.specs.Viability.{BeginsText}
 use Rattle.cue_syntax.specs.Spots.{spot_of}
 use Rattle.cue_syntax.specs.Forms.{IsOfLabel, IsOfOperand}
 
 -- the tokens begin some text of any number of levels
 abbrev pub BeginText : List Token → Type 0
-BeginText tokens = Begins unlimited (length tokens) tokens
+BeginText tokens = BeginsText unlimited (length tokens) tokens
 
 -- a token, wherever it stands
 abbrev pub token_of : TokenKind → Token

@@ -3,7 +3,7 @@ use Rattle.std.specs.Prelude.{◌≡◌, ℕ, List}
 use Rattle.cue_lattice.specs.declared.refusal.Kind.TheVariants as refusals
 use Rattle.cue_lattice.specs.declared.refusal.Refusal.{Refusal}
 use Rattle.cue_lex.specs.declared.token.Token.{Token}
-use Rattle.cue_syntax.specs.Refusals.{Fits}
+use Rattle.cue_syntax.specs.Refusals.{FitsRefusal}
 
 -- two refusals name one place, and if one says Syntax or Nesting there, the other does
 pub record AgreeOn (a b : Refusal) : Type 0 where
@@ -14,5 +14,5 @@ pub record AgreeOn (a b : Refusal) : Type 0 where
 -- all that fit the same tokens agree so
 abbrev pub FitsOnePlace : Type 0
 FitsOnePlace =
-    (levels end : ℕ) (tokens : List Token) (a b : Refusal) → Fits levels end tokens a
-    → Fits levels end tokens b → AgreeOn a b
+    (levels end : ℕ) (tokens : List Token) (a b : Refusal) → FitsRefusal levels end tokens a
+    → FitsRefusal levels end tokens b → AgreeOn a b

@@ -38,7 +38,7 @@ fn has_lists<R: Narrow>(alloc: Global, table: &Table<R>, lists: &[Vec<Entry<R>>]
 /// Whether the tables of these lists, unified as a list, have the rows of all.
 pub fn unifies<R: Narrow>(alloc: Global, lists: Made<Vec<Vec<Entry<R>>>>) -> Made<bool> {
     let lists = lists?;
-    let all = Table::unified(alloc, trees(alloc, &lists)?)?;
+    let all = Table::unify_all(alloc, trees(alloc, &lists)?)?;
     has_lists(alloc, &all, &lists)
 }
 

@@ -3,7 +3,7 @@ use crate::both::Two;
 use crate::many::Given;
 use crate::plain::{Entry, Made, add};
 use cue_lattice::{Narrow, Text};
-use cue_row::{Labels, Level, Path, Row, Step};
+use cue_row::{LabelSet, Level, Path, Row, Step};
 use cue_scalars::ScalarSet;
 use cue_sets::{IntSet, TextSet};
 use std::alloc::Global;
@@ -56,7 +56,7 @@ fn integers(alloc: Global, value: (i64, i64), usual: (i64, i64)) -> Made<Row> {
 
 /// A struct in which all labels may stand.
 fn open_struct(alloc: Global, level: Level) -> Made<Row> {
-    Row::of_struct(alloc, level, Labels::all(alloc))
+    Row::of_struct(alloc, level, LabelSet::all(alloc))
 }
 
 /// A struct in which only these one-letter labels may stand.
@@ -65,7 +65,7 @@ fn closed(alloc: Global, letters: &str) -> Made<Row> {
     for letter in letters.chars() {
         add(&mut labels, label(alloc, letter)?)?;
     }
-    match Labels::listing(labels) {
+    match LabelSet::listing(labels) {
         Some(labels) => Row::of_struct(alloc, Level::Given, labels),
         None => open_struct(alloc, Level::Given),
     }
@@ -86,7 +86,7 @@ pub fn row(alloc: Global, name: &str) -> Made<Row> {
         "struct" => open_struct(alloc, Level::Given),
         "optional" => open_struct(alloc, Level::Optional),
         "required" => open_struct(alloc, Level::Required),
-        "nothing" => Row::of_nothing(alloc, Level::Given, Labels::all(alloc), 0, None),
+        "nothing" => Row::of_nothing(alloc, Level::Given, LabelSet::all(alloc), 0, None),
         "closed" => closed(alloc, "ab"),
         "narrow" => closed(alloc, "bc"),
         "list" => list(alloc, 2, None),

@@ -1,13 +1,13 @@
 -- Definitions: their names, which of them use which, and which reach themselves.
 use Rattle.std.proofs.Common.{◌≡◌, ℕ, zero, suc, ◌<◌, false, List, [], ◌∷◌, Some, None, inl, inr, subst, refl, rules, arith}
 use Rattle.std.specs.Prelude.{codes, map}
-use Rattle.cue_scope.specs.Definitions.{definitions, number_of, repeats}
+use Rattle.cue_scope.specs.Definitions.{definitions, number_of_name, repeated_names}
 use Rattle.cue_scope.specs.Uses.{graph}
-use Rattle.cue_scope.specs.Graph.{IsIn, Reaches, IsReached, PointsTo, targets, start, go_on, IsAcyclic}
+use Rattle.cue_scope.specs.Graph.{IsNodeIn, Reaches, IsReached, PointsTo, targets, start, go_on, IsAcyclic}
 use Rattle.cue_scope.specs.Refusing.{IsCycleAt}
 use Rattle.cue_syntax.specs.declared.tree.Identifier.TheVariants.{Definition}
 use Rattle.cue_syntax.specs.declared.tree.Mark.TheVariants.{Regular}
-use Rattle.cue_syntax.specs.Syntax.{name, parenthesis, struct, list, branch, field, definition, each_rest, no_rest, elements_of, entries_of}
+use Rattle.cue_syntax.specs.Syntax.{name, parenthesis, struct, list, branch, field, definition, each_rest, no_rest, elements_of, entries_in}
 use Rattle.text_facts.proofs.OnLiterals.{lexed}
 use Rattle.text_facts.proofs.Trees.{Says, file, label, number, both, either, read}
 
@@ -17,18 +17,18 @@ unfolding lexed
 names_and_places = (_, read _ (file (definition (codes "#A") 0 [] (number 1) ∷ field (label (codes "b") Regular) [] (number 2) ∷ definition (codes "#C") 13 ((label (codes "d") Regular) ∷ []) (number 3) ∷ [])) refl (search rules) (search rules), (refl, refl))
 
 -- from 0, and that of the first where a name is repeated
-numbers_of_definitions : Says (codes "#A: 1, #B: 2, #A: 3") (λ es. (number_of (codes "#A") (definitions es) ≡ Some 0) × (number_of (codes "#B") (definitions es) ≡ Some 1) × (number_of (codes "#C") (definitions es) ≡ None))
+numbers_of_definitions : Says (codes "#A: 1, #B: 2, #A: 3") (λ es. (number_of_name (codes "#A") (definitions es) ≡ Some 0) × (number_of_name (codes "#B") (definitions es) ≡ Some 1) × (number_of_name (codes "#C") (definitions es) ≡ None))
 unfolding lexed
 numbers_of_definitions = (_, read _ (file (definition (codes "#A") 0 [] (number 1) ∷ definition (codes "#B") 7 [] (number 2) ∷ definition (codes "#A") 14 [] (number 3) ∷ [])) refl (search rules) (search rules), (refl, refl, refl))
 
-repeated_definitions : (Says (codes "#A: 1, #B: 2, #A: 3, #A: 4") (λ es. repeats (definitions es) ≡ 14 ∷ 21 ∷ [])) × (Says (codes "#A: 1, #B: 1") (λ es. repeats (definitions es) ≡ [])) × (Says (codes "a: 1, a: 2") (λ es. repeats (definitions es) ≡ []))
+repeated_definitions : (Says (codes "#A: 1, #B: 2, #A: 3, #A: 4") (λ es. repeated_names (definitions es) ≡ 14 ∷ 21 ∷ [])) × (Says (codes "#A: 1, #B: 1") (λ es. repeated_names (definitions es) ≡ [])) × (Says (codes "a: 1, a: 2") (λ es. repeated_names (definitions es) ≡ []))
 unfolding lexed
 repeated_definitions = ((_, read _ (file (definition (codes "#A") 0 [] (number 1) ∷ definition (codes "#B") 7 [] (number 2) ∷ definition (codes "#A") 14 [] (number 3) ∷ definition (codes "#A") 21 [] (number 4) ∷ [])) refl (search rules) (search rules), refl), (_, read _ (file (definition (codes "#A") 0 [] (number 1) ∷ definition (codes "#B") 7 [] (number 1) ∷ [])) refl (search rules) (search rules), refl), (_, read _ (file (field (label (codes "a") Regular) [] (number 1) ∷ field (label (codes "a") Regular) [] (number 2) ∷ [])) refl (search rules) (search rules), refl))
 
 -- by their numbers, as often as they are named
 definitions_that_others_use : (Says (codes "#A: #B & #B, #B: {c: #C}, #C: 1") (λ es. graph (definitions es) ≡ (1 ∷ 1 ∷ []) ∷ (2 ∷ []) ∷ [] ∷ [])) × (Says (codes "#A: [#A, ...#A] & (#A | 1)") (λ es. graph (definitions es) ≡ (0 ∷ 0 ∷ 0 ∷ []) ∷ [])) × (Says (codes "a: #B, #B: 1") (λ es. graph (definitions es) ≡ [] ∷ []))
 unfolding lexed
-definitions_that_others_use = ((_, read _ (file (definition (codes "#A") 0 [] (both ((name (Definition (codes "#B")) 4) ∷ (name (Definition (codes "#B")) 9) ∷ [])) ∷ definition (codes "#B") 13 [] (struct (entries_of (field (label (codes "c") Regular) [] (name (Definition (codes "#C")) 21) ∷ [])) false) ∷ definition (codes "#C") 26 [] (number 1) ∷ [])) refl (search rules) (search rules), refl), (_, read _ (file (definition (codes "#A") 0 [] (both ((list (elements_of ((name (Definition (codes "#A")) 5) ∷ [])) (each_rest (name (Definition (codes "#A")) 12)) false) ∷ (parenthesis (either (branch false 19 (name (Definition (codes "#A")) 19) ∷ branch false 24 (number 1) ∷ [])) false) ∷ [])) ∷ [])) refl (search rules) (search rules), refl), (_, read _ (file (field (label (codes "a") Regular) [] (name (Definition (codes "#B")) 3) ∷ definition (codes "#B") 7 [] (number 1) ∷ [])) refl (search rules) (search rules), refl))
+definitions_that_others_use = ((_, read _ (file (definition (codes "#A") 0 [] (both ((name (Definition (codes "#B")) 4) ∷ (name (Definition (codes "#B")) 9) ∷ [])) ∷ definition (codes "#B") 13 [] (struct (entries_in (field (label (codes "c") Regular) [] (name (Definition (codes "#C")) 21) ∷ [])) false) ∷ definition (codes "#C") 26 [] (number 1) ∷ [])) refl (search rules) (search rules), refl), (_, read _ (file (definition (codes "#A") 0 [] (both ((list (elements_of ((name (Definition (codes "#A")) 5) ∷ [])) (each_rest (name (Definition (codes "#A")) 12)) false) ∷ (parenthesis (either (branch false 19 (name (Definition (codes "#A")) 19) ∷ branch false 24 (number 1) ∷ [])) false) ∷ [])) ∷ [])) refl (search rules) (search rules), refl), (_, read _ (file (field (label (codes "a") Regular) [] (name (Definition (codes "#B")) 3) ∷ definition (codes "#B") 7 [] (number 1) ∷ [])) refl (search rules) (search rules), refl))
 
 -- 0 to 1 and 1 to 0, and 2 to 0
 abbrev round : List (List ℕ)
@@ -72,7 +72,7 @@ one_that_leads_to_none_is_acyclic i h = from_none i i h
 -- the first of them is named
 definitions_that_use_each_other : Says (codes "#B: {a: #A}, #A: #B") (λ es. IsCycleAt (definitions es) 0)
 unfolding lexed
-definitions_that_use_each_other = (_, read _ (file (definition (codes "#B") 0 [] (struct (entries_of (field (label (codes "a") Regular) [] (name (Definition (codes "#A")) 8) ∷ [])) false) ∷ definition (codes "#A") 13 [] (name (Definition (codes "#B")) 17) ∷ [])) refl (search rules) (search rules), record { number = 0; first = record { reaches = go_on 1 0 (start 1 (inl refl)) (inl refl); first = λ j below. absurd (omega (arith, below)) }; place = refl })
+definitions_that_use_each_other = (_, read _ (file (definition (codes "#B") 0 [] (struct (entries_in (field (label (codes "a") Regular) [] (name (Definition (codes "#A")) 8) ∷ [])) false) ∷ definition (codes "#A") 13 [] (name (Definition (codes "#B")) 17) ∷ [])) refl (search rules) (search rules), record { number = 0; first = record { reaches = go_on 1 0 (start 1 (inl refl)) (inl refl); first = λ j below. absurd (omega (arith, below)) }; place = refl })
 
 -- 0 to 1 and 1 to 1
 abbrev behind_one : List (List ℕ)
@@ -83,7 +83,7 @@ always_1 i (start _ (inl e)) = e
 always_1 i (start _ (inr e)) = absurd e
 always_1 i (go_on j _ before to) = let e = always_1 j before in target (subst (λ n. PointsTo behind_one n i) e to)
   where
-    target : IsIn i (1 ∷ []) → i ≡ 1
+    target : IsNodeIn i (1 ∷ []) → i ≡ 1
     target (inl e) = e
     target (inr e) = absurd e
 

@@ -5,7 +5,7 @@ use Rattle.cue_syntax.specs.declared.tree.Comparison.TheVariants.{Less, AtMost, 
 use Rattle.cue_syntax.specs.declared.tree.Identifier.TheVariants.{Plain, Definition, Hidden}
 use Rattle.cue_syntax.specs.declared.tree.Mark.TheVariants.{Regular, Optional, Required}
 use Rattle.cue_syntax.specs.declared.tree.Sign.TheVariants.{Absent, Minus, Plus}
-use Rattle.cue_syntax.specs.Syntax.{name, integer, text, bottom, bound, other_integer, other_text, parenthesis, struct, close, list, branch, ellipsis, field, definition, no_rest, any_rest, each_rest, elements_of, entries_of}
+use Rattle.cue_syntax.specs.Syntax.{name, integer, text, bottom, bound, other_integer, other_text, parenthesis, struct, close, list, branch, ellipsis, field, definition, no_rest, any_rest, each_rest, elements_of, entries_in}
 use Rattle.text_facts.proofs.OnLiterals.{lexed}
 use Rattle.text_facts.proofs.Trees.{IsTreeOf, HasNoTree, file, label, quoted, signed, number, both, either, read, unread}
 
@@ -17,7 +17,7 @@ a_field : IsTreeOf (codes "a: 1") (file (field (label (codes "a") Regular) [] (n
 unfolding lexed
 a_field = read _ _ refl (search rules) (search rules)
 
-a_comma_behind_the_last : (IsTreeOf (codes "a: 1,") (record { package_clause = None; declarations = entries_of (field (label (codes "a") Regular) [] (number 1) ∷ []); comma = true })) × (IsTreeOf (codes "a: 1\n") (record { package_clause = None; declarations = entries_of (field (label (codes "a") Regular) [] (number 1) ∷ []); comma = true }))
+a_comma_behind_the_last : (IsTreeOf (codes "a: 1,") (record { package_clause = None; declarations = entries_in (field (label (codes "a") Regular) [] (number 1) ∷ []); comma = true })) × (IsTreeOf (codes "a: 1\n") (record { package_clause = None; declarations = entries_in (field (label (codes "a") Regular) [] (number 1) ∷ []); comma = true }))
 unfolding lexed
 a_comma_behind_the_last = (read _ _ refl (search rules) (search rules), read _ _ refl (search rules) (search rules))
 
@@ -38,7 +38,7 @@ unfolding lexed
 keywords_are_labels = read _ _ refl (search rules) (search rules)
 
 -- its name, and whether a comma stands behind it
-a_clause_of_a_package : (IsTreeOf (codes "package a") (record { package_clause = (Some (record { name = (Plain (codes "a")); comma = false })); declarations = entries_of []; comma = false })) × (IsTreeOf (codes "package _b\na: 1") (record { package_clause = (Some (record { name = (Hidden (codes "_b")); comma = true })); declarations = entries_of (field (label (codes "a") Regular) [] (number 1) ∷ []); comma = false }))
+a_clause_of_a_package : (IsTreeOf (codes "package a") (record { package_clause = (Some (record { name = (Plain (codes "a")); comma = false })); declarations = entries_in []; comma = false })) × (IsTreeOf (codes "package _b\na: 1") (record { package_clause = (Some (record { name = (Hidden (codes "_b")); comma = true })); declarations = entries_in (field (label (codes "a") Regular) [] (number 1) ∷ []); comma = false }))
 unfolding lexed
 a_clause_of_a_package = (read _ _ refl (search rules) (search rules), read _ _ refl (search rules) (search rules))
 
@@ -67,7 +67,7 @@ parentheses_are_kept : (IsTreeOf (codes "a: (1 | 2) & 3") (file (field (label (c
 unfolding lexed
 parentheses_are_kept = (read _ _ refl (search rules) (search rules), read _ _ refl (search rules) (search rules))
 
-structs : (IsTreeOf (codes "a: {}") (file (field (label (codes "a") Regular) [] (struct (entries_of []) false) ∷ []))) × (IsTreeOf (codes "a: {b: 1, ...}") (file (field (label (codes "a") Regular) [] (struct (entries_of (field (label (codes "b") Regular) [] (number 1) ∷ ellipsis ∷ [])) false) ∷ []))) × (IsTreeOf (codes "a: {b: 1\n}") (file (field (label (codes "a") Regular) [] (struct (entries_of (field (label (codes "b") Regular) [] (number 1) ∷ [])) true) ∷ [])))
+structs : (IsTreeOf (codes "a: {}") (file (field (label (codes "a") Regular) [] (struct (entries_in []) false) ∷ []))) × (IsTreeOf (codes "a: {b: 1, ...}") (file (field (label (codes "a") Regular) [] (struct (entries_in (field (label (codes "b") Regular) [] (number 1) ∷ ellipsis ∷ [])) false) ∷ []))) × (IsTreeOf (codes "a: {b: 1\n}") (file (field (label (codes "a") Regular) [] (struct (entries_in (field (label (codes "b") Regular) [] (number 1) ∷ [])) true) ∷ [])))
 unfolding lexed
 structs = (read _ _ refl (search rules) (search rules), read _ _ refl (search rules) (search rules), read _ _ refl (search rules) (search rules))
 
@@ -80,7 +80,7 @@ unfolding lexed
 lists_that_go_on = (read _ _ refl (search rules) (search rules), read _ _ refl (search rules) (search rules), read _ _ refl (search rules) (search rules), read _ _ refl (search rules) (search rules))
 
 -- and close as a name
-a_closed_struct : (IsTreeOf (codes "a: close({b: 1})") (file (field (label (codes "a") Regular) [] (close 3 (entries_of (field (label (codes "b") Regular) [] (number 1) ∷ [])) false false) ∷ []))) × (IsTreeOf (codes "a: close({},)") (file (field (label (codes "a") Regular) [] (close 3 (entries_of []) false true) ∷ []))) × (IsTreeOf (codes "a: close") (file (field (label (codes "a") Regular) [] (name (Plain (codes "close")) 3) ∷ [])))
+a_closed_struct : (IsTreeOf (codes "a: close({b: 1})") (file (field (label (codes "a") Regular) [] (close 3 (entries_in (field (label (codes "b") Regular) [] (number 1) ∷ [])) false false) ∷ []))) × (IsTreeOf (codes "a: close({},)") (file (field (label (codes "a") Regular) [] (close 3 (entries_in []) false true) ∷ []))) × (IsTreeOf (codes "a: close") (file (field (label (codes "a") Regular) [] (name (Plain (codes "close")) 3) ∷ [])))
 unfolding lexed
 a_closed_struct = (read _ _ refl (search rules) (search rules), read _ _ refl (search rules) (search rules), read _ _ refl (search rules) (search rules))
 

@@ -11,15 +11,15 @@ use Rattle.cue_lex.specs.declared.token.TokenKind.TheVariants.{Name, Mark}
 use Rattle.cue_lex.specs.declared.punctuation.Punctuation.TheVariants.{OpenParenthesis}
 use Rattle.cue_syntax.specs.declared.tree.Label.{Label}
 use Rattle.cue_syntax.specs.declared.tree.Mark.TheVariants.{Regular}
-use Rattle.cue_syntax.specs.Syntax.{Elements, element, no_elements, Entries, entries_of, field, list, no_rest}
+use Rattle.cue_syntax.specs.Syntax.{Elements, element, no_elements, Entries, entries_in, field, list, no_rest}
 use Rattle.cue_syntax.specs.Grammar.{unlimited, at_most, levels_of_entries}
-use Rattle.cue_syntax.specs.Viability.{Stands, IsKeywordName, IsCallOfClose}
-use Rattle.cue_syntax.specs.Refusals.{BeginsWithin, IsCallBehind, Fits}
+use Rattle.cue_syntax.specs.Viability.{IsTokenAt, IsKeywordName, IsCallOfClose}
+use Rattle.cue_syntax.specs.Refusals.{BeginsWithin, IsCallBehind, FitsRefusal}
 use Rattle.cue_syntax.proofs.NoTextWhereStuck.{stuck_begins_none}
 use Rattle.cue_syntax.proofs.TakenBeginsAText.{begins}
 use Rattle.cue_scope.specs.Limits.{size, depth}
 use Rattle.cue_scope.specs.Meaning.{meant_text}
-use Rattle.cue_scope.specs.Refusing.{IsLegal, Refuses}
+use Rattle.cue_scope.specs.Refusing.{IsLegalTree, TextRefuses}
 use Rattle.text_facts.proofs.Definitions.{none_is_acyclic}
 use Rattle.text_facts.proofs.OnLiterals.{lexed}
 use Rattle.text_facts.proofs.Spelt.{at, mark_at, fault}
@@ -58,7 +58,7 @@ abbrev opening : ℕ → List ℕ
 opening n = 97 ∷ 58 ∷ times n 40 []
 
 -- the 65th
-a_level_too_many : Fits level_limit 67 (words_of (tokens (opening 65))) (refusal_at Nesting 66)
+a_level_too_many : FitsRefusal level_limit 67 (words_of (tokens (opening 65))) (refusal_at Nesting 66)
 unfolding lexed
 a_level_too_many = record { j = 66; place = refl; fits = record { k = 66; within = inl (begins (at_most 64) words last refl); beyond = beyond; deeper = begins unlimited words [] refl; named = inl (refl, λ h. h) } }
   where
@@ -68,8 +68,8 @@ a_level_too_many = record { j = 66; place = refl; fits = record { k = 66; within
     last : List Token
     last = mark_at 66 OpenParenthesis ∷ []
 
-    no_keyword : (earlier : ℕ) → suc earlier ≡ 67 → Stands IsKeywordName (drop earlier words) → ⊥
-    no_keyword earlier next h = subst (λ n. Stands IsKeywordName (drop n words)) (let e : earlier ≡ 66 = omega (arith, next) in e) h
+    no_keyword : (earlier : ℕ) → suc earlier ≡ 67 → IsTokenAt IsKeywordName (drop earlier words) → ⊥
+    no_keyword earlier next h = subst (λ n. IsTokenAt IsKeywordName (drop n words)) (let e : earlier ≡ 66 = omega (arith, next) in e) h
 
     no_close : (earlier : ℕ) → suc earlier ≡ 67 → IsCallBehind earlier words → ⊥
     no_close earlier next h =
@@ -92,16 +92,16 @@ chained zero = []
 chained (suc n) = label (codes "a") Regular ∷ chained n
 
 abbrev chain_of : ℕ → Entries
-chain_of n = entries_of (field (label (codes "a") Regular) (chained n) (number 1) ∷ [])
+chain_of n = entries_in (field (label (codes "a") Regular) (chained n) (number 1) ∷ [])
 
 -- with 65 labels 64 levels are open
 the_steps_of_chains : (depth (meant_text (chain_of 63)) ≡ 64) × (depth (meant_text (chain_of 64)) ≡ 65) × (levels_of_entries (chain_of 64) ≡ 64)
 the_steps_of_chains = (refl, refl, refl)
 
-the_deepest_chain : IsLegal (chain_of 63)
+the_deepest_chain : IsLegalTree (chain_of 63)
 the_deepest_chain = record { small = record { scalar = record { ordered = record { named = record { unrepeated = refl; names = refl }; acyclic = none_is_acyclic }; terms = refl }; size = search rules }; depth = search rules }
 
-a_chain_too_deep : Refuses (chain_of 64) (refusal_at TooDeep 0)
+a_chain_too_deep : TextRefuses (chain_of 64) (refusal_at TooDeep 0)
 a_chain_too_deep = (record { scalar = record { ordered = record { named = record { unrepeated = refl; names = refl }; acyclic = none_is_acyclic }; terms = refl }; size = search rules }, search rules, refl)
 
 -- a: [1, 1, ..], of so many elements
@@ -110,10 +110,10 @@ ones zero = no_elements
 ones (suc n) = element (number 1) (ones n)
 
 abbrev list_of : ℕ → Entries
-list_of n = entries_of (field (label (codes "a") Regular) [] (list (ones n) no_rest false) ∷ [])
+list_of n = entries_in (field (label (codes "a") Regular) [] (list (ones n) no_rest false) ∷ [])
 
 the_sizes_of_lists : (size (meant_text (list_of 65533)) ≡ 65536) × (size (meant_text (list_of 65534)) ≡ 65537)
 the_sizes_of_lists = (refl, refl)
 
-a_list_too_large : Refuses (list_of 65534) (refusal_at TooLarge 0)
+a_list_too_large : TextRefuses (list_of 65534) (refusal_at TooLarge 0)
 a_list_too_large = (record { ordered = record { named = record { unrepeated = refl; names = refl }; acyclic = none_is_acyclic }; terms = refl }, search rules, refl)

@@ -10,7 +10,7 @@ use Rattle.cue_syntax.specs.declared.tree.Comparison.TheVariants.{Less, AtMost}
 use Rattle.cue_syntax.specs.declared.tree.Identifier.TheVariants.{Plain, Definition, Hidden}
 use Rattle.cue_syntax.specs.declared.tree.Mark.TheVariants.{Regular, Optional, Required}
 use Rattle.cue_syntax.specs.declared.tree.Sign.TheVariants.{Absent, Minus}
-use Rattle.cue_syntax.specs.Syntax.{name, integer, text, bottom, bound, other_integer, other_text, parenthesis, struct, close, list, branch, ellipsis, field, definition, no_rest, any_rest, each_rest, elements_of, entries_of}
+use Rattle.cue_syntax.specs.Syntax.{name, integer, text, bottom, bound, other_integer, other_text, parenthesis, struct, close, list, branch, ellipsis, field, definition, no_rest, any_rest, each_rest, elements_of, entries_in}
 use Rattle.text_facts.proofs.OnLiterals.{lexed}
 use Rattle.text_facts.proofs.Trees.{Says, file, label, quoted, signed, number, both, either, read}
 
@@ -29,7 +29,7 @@ two c d = core.conjunction (core.core c (core.core d no_cores))
 
 no_declarations : (Says (codes "") (λ es. meant_text es ≡ core.struct no_members)) × (Says (codes "package a") (λ es. meant_text es ≡ core.struct no_members)) × (Says (codes "...") (λ es. meant_text es ≡ core.struct no_members))
 unfolding lexed
-no_declarations = ((_, read _ (file []) refl (search rules) (search rules), refl), (_, read _ (record { package_clause = (Some (record { name = (Plain (codes "a")); comma = false })); declarations = entries_of []; comma = false }) refl (search rules) (search rules), refl), (_, read _ (file (ellipsis ∷ [])) refl (search rules) (search rules), refl))
+no_declarations = ((_, read _ (file []) refl (search rules) (search rules), refl), (_, read _ (record { package_clause = (Some (record { name = (Plain (codes "a")); comma = false })); declarations = entries_in []; comma = false }) refl (search rules) (search rules), refl), (_, read _ (file (ellipsis ∷ [])) refl (search rules) (search rules), refl))
 
 words_of_the_language : (Says (codes "a: null") (λ es. meant_text es ≡ one (codes "a") (null))) × (Says (codes "a: true") (λ es. meant_text es ≡ one (codes "a") (truth true))) × (Says (codes "a: false") (λ es. meant_text es ≡ one (codes "a") (truth false))) × (Says (codes "a: int8") (λ es. meant_text es ≡ one (codes "a") (named sets.Int8))) × (Says (codes "a: _") (λ es. meant_text es ≡ one (codes "a") (top))) × (Says (codes "a: _|_") (λ es. meant_text es ≡ one (codes "a") (core.bottom)))
 unfolding lexed
@@ -57,12 +57,12 @@ a_quoted_label_is_the_label = (_, read _ (file (field (quoted (codes "a") Requir
 
 structs_and_lists : (Says (codes "a: {b: 1, ...}") (λ es. meant_text es ≡ one (codes "a") (core.struct (with (codes "b") (just 1) (dots no_members))))) × (Says (codes "a: close({...})") (λ es. meant_text es ≡ one (codes "a") (core.close (dots no_members)))) × (Says (codes "a: [1]") (λ es. meant_text es ≡ one (codes "a") (core.list (core.element (just 1) ends)))) × (Says (codes "a: [1, ...]") (λ es. meant_text es ≡ one (codes "a") (core.list (core.element (just 1) goes_on)))) × (Says (codes "a: [...1]") (λ es. meant_text es ≡ one (codes "a") (core.list (each (just 1)))))
 unfolding lexed
-structs_and_lists = ((_, read _ (file (field (label (codes "a") Regular) [] (struct (entries_of (field (label (codes "b") Regular) [] (number 1) ∷ ellipsis ∷ [])) false) ∷ [])) refl (search rules) (search rules), refl), (_, read _ (file (field (label (codes "a") Regular) [] (close 3 (entries_of (ellipsis ∷ [])) false false) ∷ [])) refl (search rules) (search rules), refl), (_, read _ (file (field (label (codes "a") Regular) [] (list (elements_of ((number 1) ∷ [])) no_rest false) ∷ [])) refl (search rules) (search rules), refl), (_, read _ (file (field (label (codes "a") Regular) [] (list (elements_of ((number 1) ∷ [])) any_rest false) ∷ [])) refl (search rules) (search rules), refl), (_, read _ (file (field (label (codes "a") Regular) [] (list (elements_of []) (each_rest (number 1)) false) ∷ [])) refl (search rules) (search rules), refl))
+structs_and_lists = ((_, read _ (file (field (label (codes "a") Regular) [] (struct (entries_in (field (label (codes "b") Regular) [] (number 1) ∷ ellipsis ∷ [])) false) ∷ [])) refl (search rules) (search rules), refl), (_, read _ (file (field (label (codes "a") Regular) [] (close 3 (entries_in (ellipsis ∷ [])) false false) ∷ [])) refl (search rules) (search rules), refl), (_, read _ (file (field (label (codes "a") Regular) [] (list (elements_of ((number 1) ∷ [])) no_rest false) ∷ [])) refl (search rules) (search rules), refl), (_, read _ (file (field (label (codes "a") Regular) [] (list (elements_of ((number 1) ∷ [])) any_rest false) ∷ [])) refl (search rules) (search rules), refl), (_, read _ (file (field (label (codes "a") Regular) [] (list (elements_of []) (each_rest (number 1)) false) ∷ [])) refl (search rules) (search rules), refl))
 
 -- with the chain of labels before it, and the uses in it
 a_use_is_the_body_closed : (Says (codes "#A: 1, a: #A") (λ es. meant_text es ≡ one (codes "a") (closed (just 1)))) × (Says (codes "#A: b: 1, a: #A") (λ es. meant_text es ≡ one (codes "a") (closed (one (codes "b") (just 1))))) × (Says (codes "a: #A, #A: {b: #B}, #B: 2") (λ es. meant_text es ≡ one (codes "a") (closed (one (codes "b") (closed (just 2))))))
 unfolding lexed meaning_within
-a_use_is_the_body_closed = ((_, read _ (file (definition (codes "#A") 0 [] (number 1) ∷ field (label (codes "a") Regular) [] (name (Definition (codes "#A")) 10) ∷ [])) refl (search rules) (search rules), refl), (_, read _ (file (definition (codes "#A") 0 ((label (codes "b") Regular) ∷ []) (number 1) ∷ field (label (codes "a") Regular) [] (name (Definition (codes "#A")) 13) ∷ [])) refl (search rules) (search rules), refl), (_, read _ (file (field (label (codes "a") Regular) [] (name (Definition (codes "#A")) 3) ∷ definition (codes "#A") 7 [] (struct (entries_of (field (label (codes "b") Regular) [] (name (Definition (codes "#B")) 15) ∷ [])) false) ∷ definition (codes "#B") 20 [] (number 2) ∷ [])) refl (search rules) (search rules), refl))
+a_use_is_the_body_closed = ((_, read _ (file (definition (codes "#A") 0 [] (number 1) ∷ field (label (codes "a") Regular) [] (name (Definition (codes "#A")) 10) ∷ [])) refl (search rules) (search rules), refl), (_, read _ (file (definition (codes "#A") 0 ((label (codes "b") Regular) ∷ []) (number 1) ∷ field (label (codes "a") Regular) [] (name (Definition (codes "#A")) 13) ∷ [])) refl (search rules) (search rules), refl), (_, read _ (file (field (label (codes "a") Regular) [] (name (Definition (codes "#A")) 3) ∷ definition (codes "#A") 7 [] (struct (entries_in (field (label (codes "b") Regular) [] (name (Definition (codes "#B")) 15) ∷ [])) false) ∷ definition (codes "#B") 20 [] (number 2) ∷ [])) refl (search rules) (search rules), refl))
 
 definitions_alone_mean_nothing : Says (codes "#A: 1") (λ es. meant_text es ≡ core.struct no_members)
 unfolding lexed
@@ -80,4 +80,4 @@ scalar_terms = ((_, read _ (file (field (label (codes "a") Regular) [] (either (
 -- at the term behind its mark, and an outer one before those in it
 terms_that_are_not_scalar : (Says (codes "a: {} | 1") (λ es. bad_terms es ≡ 3 ∷ [])) × (Says (codes "a: *[] | [1]") (λ es. bad_terms es ≡ 4 ∷ 9 ∷ [])) × (Says (codes "a: _ | 1") (λ es. bad_terms es ≡ 3 ∷ [])) × (Says (codes "#A: {}, a: 1 | #A") (λ es. bad_terms es ≡ 15 ∷ [])) × (Says (codes "a: ({} | 1) | 2") (λ es. bad_terms es ≡ 3 ∷ 4 ∷ []))
 unfolding lexed meaning_within
-terms_that_are_not_scalar = ((_, read _ (file (field (label (codes "a") Regular) [] (either (branch false 3 (struct (entries_of []) false) ∷ branch false 8 (number 1) ∷ [])) ∷ [])) refl (search rules) (search rules), refl), (_, read _ (file (field (label (codes "a") Regular) [] (either (branch true 4 (list (elements_of []) no_rest false) ∷ branch false 9 (list (elements_of ((number 1) ∷ [])) no_rest false) ∷ [])) ∷ [])) refl (search rules) (search rules), refl), (_, read _ (file (field (label (codes "a") Regular) [] (either (branch false 3 (name (Hidden (codes "_")) 3) ∷ branch false 7 (number 1) ∷ [])) ∷ [])) refl (search rules) (search rules), refl), (_, read _ (file (definition (codes "#A") 0 [] (struct (entries_of []) false) ∷ field (label (codes "a") Regular) [] (either (branch false 11 (number 1) ∷ branch false 15 (name (Definition (codes "#A")) 15) ∷ [])) ∷ [])) refl (search rules) (search rules), refl), (_, read _ (file (field (label (codes "a") Regular) [] (either (branch false 3 (parenthesis (either (branch false 4 (struct (entries_of []) false) ∷ branch false 9 (number 1) ∷ [])) false) ∷ branch false 14 (number 2) ∷ [])) ∷ [])) refl (search rules) (search rules), refl))
+terms_that_are_not_scalar = ((_, read _ (file (field (label (codes "a") Regular) [] (either (branch false 3 (struct (entries_in []) false) ∷ branch false 8 (number 1) ∷ [])) ∷ [])) refl (search rules) (search rules), refl), (_, read _ (file (field (label (codes "a") Regular) [] (either (branch true 4 (list (elements_of []) no_rest false) ∷ branch false 9 (list (elements_of ((number 1) ∷ [])) no_rest false) ∷ [])) ∷ [])) refl (search rules) (search rules), refl), (_, read _ (file (field (label (codes "a") Regular) [] (either (branch false 3 (name (Hidden (codes "_")) 3) ∷ branch false 7 (number 1) ∷ [])) ∷ [])) refl (search rules) (search rules), refl), (_, read _ (file (definition (codes "#A") 0 [] (struct (entries_in []) false) ∷ field (label (codes "a") Regular) [] (either (branch false 11 (number 1) ∷ branch false 15 (name (Definition (codes "#A")) 15) ∷ [])) ∷ [])) refl (search rules) (search rules), refl), (_, read _ (file (field (label (codes "a") Regular) [] (either (branch false 3 (parenthesis (either (branch false 4 (struct (entries_in []) false) ∷ branch false 9 (number 1) ∷ [])) false) ∷ branch false 14 (number 2) ∷ [])) ∷ [])) refl (search rules) (search rules), refl))

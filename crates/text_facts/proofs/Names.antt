@@ -4,7 +4,7 @@ use Rattle.std.specs.Prelude.{codes}
 use Rattle.cue_lattice.specs.declared.refusal.Kind.TheVariants.{BadCharacter}
 use Rattle.cue_lex.specs.declared.token.TokenKind.TheVariants.{Name, Definition, Hidden}
 use Rattle.cue_lex.specs.declared.punctuation.Punctuation.TheVariants.{Minus}
-use Rattle.cue_lex.specs.Names.{run_len, word_len, signed_len, identifier_len, IsIdentifier}
+use Rattle.cue_lex.specs.Names.{run_len, word_len, signed_len, identifier_len, IsIdentifierText}
 use Rattle.cue_lex.specs.Lexemes.{name_kind}
 use Rattle.cue_lex.specs.Tokens.{tokens}
 use Rattle.text_facts.proofs.OnLiterals.{lexed}
@@ -42,12 +42,12 @@ kinds_of_names : (name_kind (codes "a") ≡ Name (codes "a")) × (name_kind (cod
 unfolding lexed
 kinds_of_names = (refl, refl, refl, refl, refl, refl)
 
-an_identifier : IsIdentifier (codes "_#a1")
+an_identifier : IsIdentifierText (codes "_#a1")
 unfolding lexed
 an_identifier = record { sign = codes "_#"; letter = 97; parts = 49 ∷ []; one_sign = inr (inr refl); characters = refl; letter_first = refl; parts_after = refl; spells = refl }
 
 -- é
-an_identifier_of_two_bytes : IsIdentifier (0xC3 ∷ 0xA9 ∷ [])
+an_identifier_of_two_bytes : IsIdentifierText (0xC3 ∷ 0xA9 ∷ [])
 unfolding lexed
 an_identifier_of_two_bytes = record { sign = []; letter = 0xE9; parts = []; one_sign = inl refl; characters = refl; letter_first = refl; parts_after = refl; spells = refl }
 

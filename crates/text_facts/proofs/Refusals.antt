@@ -12,14 +12,14 @@ use Rattle.cue_lex.specs.declared.token.Token.{Token}
 use Rattle.cue_lex.specs.declared.token.TokenKind.TheVariants.{Name, Mark}
 use Rattle.cue_lex.specs.declared.punctuation.Punctuation.TheVariants.{OpenBrace, OpenParenthesis, Less, Ellipsis}
 use Rattle.cue_lex.specs.Tokens.{tokens}
-use Rattle.cue_syntax.specs.declared.spot.Spot.{Spot}
-use Rattle.cue_syntax.specs.declared.spot.Spot.TheVariants as spots
-use Rattle.cue_syntax.specs.Forms.{IsAt}
+use Rattle.cue_syntax.specs.declared.spot.Position.{Position}
+use Rattle.cue_syntax.specs.declared.spot.Position.TheVariants as spots
+use Rattle.cue_syntax.specs.Forms.{IsFormAt}
 use Rattle.cue_syntax.specs.Grammar.{unlimited, at_most}
-use Rattle.cue_syntax.specs.Recogniser.{Goal, stuck}
+use Rattle.cue_syntax.specs.Recogniser.{Goal, rest_where_stuck}
 use Rattle.cue_syntax.specs.Spots.{spot_of}
-use Rattle.cue_syntax.specs.Viability.{place_of, IsHidden, IsDefinition, IsCallable, NextSign}
-use Rattle.cue_syntax.specs.Refusals.{IsNamedEarly, IsNamed, IsKindAfter, LeavesAt, FitsAt, Fits}
+use Rattle.cue_syntax.specs.Viability.{place_of_symbol, IsHidden, IsDefinition, IsCallable, NextSign}
+use Rattle.cue_syntax.specs.Refusals.{IsNamedEarly, IsSymbolNamed, IsKindAfter, LeavesAt, FitsRefusalAt, FitsRefusal}
 use Rattle.cue_syntax.proofs.NoTextWhereStuck.{stuck_begins_none}
 use Rattle.cue_syntax.proofs.TakenBeginsAText.{begins}
 use Rattle.text_facts.proofs.OnLiterals.{lexed}
@@ -30,16 +30,16 @@ use Rattle.text_facts.proofs.Trees.{words_of}
 record IsRefused (text : List ℕ) (why : Refusal) : Type 0 where
   pub words : List Token
   pub lexed : tokens text ≡ Ok words
-  pub fits : Fits level_limit (length text) words why
+  pub fits : FitsRefusal level_limit (length text) words why
 
 -- ---- proofs
-refused : (text : List ℕ) (why : Refusal) (j : ℕ) → tokens text ≡ Ok (words_of (tokens text)) → why.place ≡ place_of (length text) (drop j (words_of (tokens text)))
-    → FitsAt level_limit (words_of (tokens text)) why.kind j → IsRefused text why
+refused : (text : List ℕ) (why : Refusal) (j : ℕ) → tokens text ≡ Ok (words_of (tokens text)) → why.place ≡ place_of_symbol (length text) (drop j (words_of (tokens text)))
+    → FitsRefusalAt level_limit (words_of (tokens text)) why.kind j → IsRefused text why
 refused text why j lexed place fits = record { words = words_of (tokens text); lexed = lexed; fits = record { j = j; place = place; fits = fits } }
 
 -- where the recogniser sticks, within a limit and without one, the tokens leave the grammar
-left : (words here : List Token) (kind : Kind) (j : ℕ) → stuck unlimited (Goal.text ∷ []) words ≡ Some here → stuck (at_most level_limit) (Goal.text ∷ []) words ≡ Some here
-    → IsNamed words (length words - length here) j → IsKindAfter j words kind → LeavesAt level_limit words kind j
+left : (words here : List Token) (kind : Kind) (j : ℕ) → rest_where_stuck unlimited (Goal.text ∷ []) words ≡ Some here → rest_where_stuck (at_most level_limit) (Goal.text ∷ []) words ≡ Some here
+    → IsSymbolNamed words (length words - length here) j → IsKindAfter j words kind → LeavesAt level_limit words kind j
 left words here kind j free within named told = record {
   k = length words - length here;
   within = inl (begins (at_most level_limit) words here within);
@@ -49,14 +49,14 @@ left words here kind j free within named told = record {
 }
 
 -- the symbol there is named, where the one before it isn't
-named_here : (words : List Token) (k : ℕ) → ¬ IsNamedEarly k words → IsNamed words (suc k) (suc k)
+named_here : (words : List Token) (k : ℕ) → ¬ IsNamedEarly k words → IsSymbolNamed words (suc k) (suc k)
 named_here words k not_early = inr (refl, λ i next early. not_early (subst (λ n. IsNamedEarly n words) (let e : i ≡ k = omega (arith, next) in e) early))
 
-first_named : (words : List Token) → IsNamed words 0 0
+first_named : (words : List Token) → IsSymbolNamed words 0 0
 first_named words = inr (refl, λ i next early. absurd (let e : suc i ≡ 0 = next in omega (arith, e)))
 
 -- at no other spot a form is left out
-none_at_other : (ts : List Token) (form : Form) → ¬ IsAt form spots.Other ts
+none_at_other : (ts : List Token) (form : Form) → ¬ IsFormAt form spots.Other ts
 none_at_other ts forms.HiddenLabel h = h.0
 none_at_other ts forms.MarkedDefinition h = h.0
 none_at_other ts forms.NestedDefinition h = h.0
@@ -70,7 +70,7 @@ none_at_other ts forms.Call h = h.0
 none_at_other ts forms.CloseArgument h = let e : spots.Other ≡ spots.CloseArgument = h.0 in cc
 
 -- nor at the end of a text
-none_at_end : (spot : Spot) (form : Form) → ¬ IsAt form spot []
+none_at_end : (spot : Position) (form : Form) → ¬ IsFormAt form spot []
 none_at_end spot forms.HiddenLabel h = h.1
 none_at_end spot forms.MarkedDefinition h = h.1
 none_at_end spot forms.NestedDefinition h = h.1
@@ -85,7 +85,7 @@ none_at_end spot forms.Call h = h.1
 none_at_end spot forms.CloseArgument h = h.1
 
 -- nor between `close` and its parenthesis
-none_at_close : (ts : List Token) (form : Form) → ¬ IsAt form spots.CloseName ts
+none_at_close : (ts : List Token) (form : Form) → ¬ IsFormAt form spots.CloseName ts
 none_at_close ts forms.HiddenLabel h = h.0
 none_at_close ts forms.MarkedDefinition h = h.0
 none_at_close ts forms.NestedDefinition h = h.0
@@ -100,7 +100,7 @@ none_at_close ts forms.CloseArgument h = let e : spots.CloseName ≡ spots.Close
 
 -- a value that is no hidden name, no definition, and no call
 none_of_value : (t : Token) (ts : List Token) → ¬ IsHidden t.kind → ¬ IsDefinition t.kind → ¬ (IsCallable t.kind × NextSign (Mark OpenParenthesis) (t ∷ ts))
-    → (form : Form) → ¬ IsAt form spots.Value (t ∷ ts)
+    → (form : Form) → ¬ IsFormAt form spots.Value (t ∷ ts)
 none_of_value t ts hidden definition call forms.HiddenLabel h = hidden h.1
 none_of_value t ts hidden definition call forms.MarkedDefinition h = definition h.1
 none_of_value t ts hidden definition call forms.NestedDefinition h = definition h.1
@@ -114,7 +114,7 @@ none_of_value t ts hidden definition call forms.Call h = call (h.1, h.2)
 none_of_value t ts hidden definition call forms.CloseArgument h = let e : spots.Value ≡ spots.CloseArgument = h.0 in cc
 
 -- an operand that is no call
-none_of_operand : (t : Token) (ts : List Token) → ¬ IsCallable t.kind → (form : Form) → ¬ IsAt form spots.Operand (t ∷ ts)
+none_of_operand : (t : Token) (ts : List Token) → ¬ IsCallable t.kind → (form : Form) → ¬ IsFormAt form spots.Operand (t ∷ ts)
 none_of_operand t ts call forms.HiddenLabel h = h.0
 none_of_operand t ts call forms.MarkedDefinition h = h.0
 none_of_operand t ts call forms.NestedDefinition h = h.0
@@ -128,7 +128,7 @@ none_of_operand t ts call forms.Call h = call h.1
 none_of_operand t ts call forms.CloseArgument h = let e : spots.Operand ≡ spots.CloseArgument = h.0 in cc
 
 -- `...` at the top
-none_of_dots : (from to : ℕ) (ts : List Token) (form : Form) → ¬ IsAt form spots.Top (record { kind = Mark Ellipsis; from = from; to = to } ∷ ts)
+none_of_dots : (from to : ℕ) (ts : List Token) (form : Form) → ¬ IsFormAt form spots.Top (record { kind = Mark Ellipsis; from = from; to = to } ∷ ts)
 none_of_dots from to ts forms.HiddenLabel h = h.1
 none_of_dots from to ts forms.MarkedDefinition h = h.1
 none_of_dots from to ts forms.NestedDefinition h = h.0
@@ -144,11 +144,11 @@ none_of_dots from to ts forms.CloseArgument h = let e : spots.Top ≡ spots.Clos
 
 -- so such a symbol is not named before the next
 not_early_other : (j : ℕ) (words : List Token) → spot_of (take j words) ≡ spots.Other → ¬ IsNamedEarly j words
-not_early_other j words is (inl (form, h)) = none_at_other (drop j words) form (subst (λ spot. IsAt form spot (drop j words)) is h.0)
+not_early_other j words is (inl (form, h)) = none_at_other (drop j words) form (subst (λ spot. IsFormAt form spot (drop j words)) is h.0)
 not_early_other j words is (inr h) = let e : spots.Other ≡ spots.Value = sym is ∙ h.0 in cc
 
 syntax_at_other : (j : ℕ) (words : List Token) → spot_of (take j words) ≡ spots.Other → IsKindAfter j words Syntax
-syntax_at_other j words is form h = none_at_other (drop j words) form (subst (λ spot. IsAt form spot (drop j words)) is h.0)
+syntax_at_other j words is form h = none_at_other (drop j words) form (subst (λ spot. IsFormAt form spot (drop j words)) is h.0)
 
 -- ---- facts
 -- at the end of the text

@@ -2,14 +2,14 @@
 use Rattle.std.proofs.Common.{◌≡◌, ℕ, List, [], refl}
 use Rattle.std.specs.Prelude.{codes}
 use Rattle.cue_lex.specs.Tokens.{tokens}
-use Rattle.cue_syntax.specs.declared.spot.Spot.{Spot}
-use Rattle.cue_syntax.specs.declared.spot.Spot.TheVariants.{Top, Inner, Value, Operand, Bound, NotEqual, Ellipsis, CloseName, CloseArgument, Other}
+use Rattle.cue_syntax.specs.declared.spot.Position.{Position}
+use Rattle.cue_syntax.specs.declared.spot.Position.TheVariants.{Top, Inner, Value, Operand, Bound, NotEqual, Ellipsis, CloseName, CloseArgument, Other}
 use Rattle.cue_syntax.specs.Spots.{spot_of}
 use Rattle.text_facts.proofs.OnLiterals.{lexed}
 use Rattle.text_facts.proofs.Trees.{words_of}
 
 -- the spot behind all tokens of a text
-abbrev behind : List ℕ → Spot
+abbrev behind : List ℕ → Position
 behind text = spot_of (words_of (tokens text))
 
 declarations : (behind [] ≡ Top) × (behind (codes "a: 1,") ≡ Top) × (behind (codes "a: {}\n") ≡ Top) × (behind (codes "a: {") ≡ Inner) × (behind (codes "a: {b: 1,") ≡ Inner)

@@ -3,7 +3,7 @@ use Rattle.std.proofs.Common.{◌≡◌, [], ◌∷◌, None, Some, Ok, refl}
 use Rattle.std.specs.Prelude.{codes}
 use Rattle.cue_lattice.specs.declared.refusal.Kind.TheVariants.{BadString}
 use Rattle.cue_lex.specs.declared.token.TokenKind.TheVariants.{Text}
-use Rattle.cue_lex.specs.Strings.{simple_escape, four_digits, eight_digits, short_escape, escape, string_text}
+use Rattle.cue_lex.specs.Strings.{simple_escape, four_digits, eight_digits, short_escape, escape_sequence, string_text}
 use Rattle.cue_lex.specs.Tokens.{tokens}
 use Rattle.text_facts.proofs.OnLiterals.{lexed}
 use Rattle.text_facts.proofs.Spelt.{at, fault}
@@ -14,29 +14,29 @@ unfolding lexed
 each_simple_escape = (refl, refl, refl, refl, refl, refl, refl, refl, refl, refl)
 
 -- \' \0 \( \N \x
-no_other_escape : (escape (codes "'") ≡ None) × (escape (codes "0") ≡ None) × (escape (codes "(a)") ≡ None) × (escape (codes "N") ≡ None) × (escape (codes "x41") ≡ None) × (escape [] ≡ None)
+no_other_escape : (escape_sequence (codes "'") ≡ None) × (escape_sequence (codes "0") ≡ None) × (escape_sequence (codes "(a)") ≡ None) × (escape_sequence (codes "N") ≡ None) × (escape_sequence (codes "x41") ≡ None) × (escape_sequence [] ≡ None)
 unfolding lexed
 no_other_escape = (refl, refl, refl, refl, refl, refl)
 
 -- \u00e9 and \u00E9, \U0001F600, and how many bytes stand after the backslash
-by_number : (escape (codes "u00e9") ≡ Some (0xE9, 5)) × (escape (codes "u00E9f") ≡ Some (0xE9, 5)) × (escape (codes "U0001F600") ≡ Some (0x1F600, 9)) × (escape (codes "n") ≡ Some (10, 1))
+by_number : (escape_sequence (codes "u00e9") ≡ Some (0xE9, 5)) × (escape_sequence (codes "u00E9f") ≡ Some (0xE9, 5)) × (escape_sequence (codes "U0001F600") ≡ Some (0x1F600, 9)) × (escape_sequence (codes "n") ≡ Some (10, 1))
 unfolding lexed
 by_number = (refl, refl, refl, refl)
 
-all_digits_are_wanted : (escape (codes "u12") ≡ None) × (escape (codes "u12g4") ≡ None) × (escape (codes "U0001F60") ≡ None)
+all_digits_are_wanted : (escape_sequence (codes "u12") ≡ None) × (escape_sequence (codes "u12g4") ≡ None) × (escape_sequence (codes "U0001F60") ≡ None)
 unfolding lexed
 all_digits_are_wanted = (refl, refl, refl)
 
-no_character_is_beyond : (escape (codes "U0010FFFF") ≡ Some (0x10FFFF, 9)) × (escape (codes "U00110000") ≡ None)
+no_character_is_beyond : (escape_sequence (codes "U0010FFFF") ≡ Some (0x10FFFF, 9)) × (escape_sequence (codes "U00110000") ≡ None)
 unfolding lexed
 no_character_is_beyond = (refl, refl)
 
 -- \ud83d\ude00
-a_pair_is_one_character : escape (codes "ud83d\\ude00") ≡ Some (0x1F600, 11)
+a_pair_is_one_character : escape_sequence (codes "ud83d\\ude00") ≡ Some (0x1F600, 11)
 unfolding lexed
 a_pair_is_one_character = refl
 
-no_surrogate_stands_alone : (escape (codes "ud83d") ≡ None) × (escape (codes "ude00") ≡ None) × (escape (codes "ud83dx\\ude00") ≡ None) × (escape (codes "ud83d\\u0041") ≡ None) × (escape (codes "ud83d\\ud83d") ≡ None) × (escape (codes "U0000D83D") ≡ None) × (escape (codes "ud83d\\U0000DE00") ≡ None)
+no_surrogate_stands_alone : (escape_sequence (codes "ud83d") ≡ None) × (escape_sequence (codes "ude00") ≡ None) × (escape_sequence (codes "ud83dx\\ude00") ≡ None) × (escape_sequence (codes "ud83d\\u0041") ≡ None) × (escape_sequence (codes "ud83d\\ud83d") ≡ None) × (escape_sequence (codes "U0000D83D") ≡ None) × (escape_sequence (codes "ud83d\\U0000DE00") ≡ None)
 unfolding lexed
 no_surrogate_stands_alone = (refl, refl, refl, refl, refl, refl, refl)
 

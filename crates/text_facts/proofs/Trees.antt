@@ -12,10 +12,10 @@ use Rattle.cue_syntax.specs.declared.tree.Mark.{Mark}
 use Rattle.cue_syntax.specs.declared.tree.Sign.{Sign}
 use Rattle.cue_syntax.specs.declared.tree.Sign.TheVariants.{Absent}
 use Rattle.cue_syntax.specs.declared.tree.Signed.{Signed}
-use Rattle.cue_syntax.specs.Syntax.{FileTree, Expression, integer, conjunction, disjunction, Branch, Entry, Entries, elements_of, branches_of, entries_of}
+use Rattle.cue_syntax.specs.Syntax.{FileTree, Expression, integer, conjunction, disjunction, Branch, Entry, Entries, elements_of, branches_in, entries_in}
 use Rattle.cue_syntax.specs.Spelling.{Follows, spell_file}
-use Rattle.cue_syntax.specs.Grammar.{at_most, IsFile, IsRightPackage, AreRightEntries, EndsEntries, levels_of_entries}
-use Rattle.cue_syntax.specs.Recogniser.{Goal, stuck}
+use Rattle.cue_syntax.specs.Grammar.{at_most, IsFileTree, IsRightPackage, AreRightEntries, EndsEntries, levels_of_entries}
+use Rattle.cue_syntax.specs.Recogniser.{Goal, rest_where_stuck}
 use Rattle.cue_syntax.proofs.NoTextWhereStuck.{takes_text}
 
 -- the tokens of a text that has no fault among them
@@ -27,7 +27,7 @@ words_of (Err why) = []
 pub record IsTreeOf (text : List ℕ) (tree : FileTree) : Type 0 where
   pub words : List Token
   pub lexed : tokens text ≡ Ok words
-  pub spelled : IsFile (at_most level_limit) words tree
+  pub spelled : IsFileTree (at_most level_limit) words tree
 
 -- the text has a tree, whose declarations are so
 abbrev pub Says : List ℕ → (Entries → Type 0) → Type 0
@@ -37,12 +37,12 @@ Says text P = (tree : FileTree) × IsTreeOf text tree × P tree.declarations
 pub record HasNoTree (text : List ℕ) : Type 0 where
   pub words : List Token
   pub lexed : tokens text ≡ Ok words
-  pub none : (tree : FileTree) → ¬ IsFile (at_most level_limit) words tree
+  pub none : (tree : FileTree) → ¬ IsFileTree (at_most level_limit) words tree
 
 -- ---- short names for parts of trees
 -- declarations with no clause of a package, and no comma behind the last
 abbrev pub file : List Entry → FileTree
-file es = record { package_clause = None; declarations = entries_of es; comma = false }
+file es = record { package_clause = None; declarations = entries_in es; comma = false }
 
 abbrev pub label : List ℕ → Mark → Label
 label name mark = record { name = Plain name; mark = mark }
@@ -60,7 +60,7 @@ abbrev pub both : List Expression → Expression
 both es = conjunction (elements_of es)
 
 abbrev pub either : List Branch → Expression
-either bs = disjunction (branches_of bs)
+either bs = disjunction (branches_in bs)
 
 -- ---- proofs
 -- what a tree of the grammar is, but for its tokens
@@ -78,7 +78,7 @@ read text tree lexed follows well = record {
 }
 
 -- the recogniser, which is proved to take each text of the grammar, sticks
-pub unread : (text : List ℕ) (here : List Token) → tokens text ≡ Ok (words_of (tokens text)) → stuck (at_most level_limit) (Goal.text ∷ []) (words_of (tokens text)) ≡ Some here
+pub unread : (text : List ℕ) (here : List Token) → tokens text ≡ Ok (words_of (tokens text)) → rest_where_stuck (at_most level_limit) (Goal.text ∷ []) (words_of (tokens text)) ≡ Some here
     → HasNoTree text
 unread text here lexed is = record {
   words = words_of (tokens text);

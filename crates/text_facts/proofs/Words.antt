@@ -7,10 +7,10 @@ use Rattle.cue_lattice.specs.Word.{IsWord}
 use Rattle.cue_lex.proofs.Longest.{identifier_longest}
 use Rattle.cue_lex.specs.declared.token.TokenKind.TheVariants.{Name, Text, Bottom}
 use Rattle.cue_lex.specs.Kinds.{HasWord}
-use Rattle.cue_lex.specs.Names.{IsIdentifier}
+use Rattle.cue_lex.specs.Names.{IsIdentifierText}
 use Rattle.cue_syntax.specs.declared.tree.Mark.TheVariants.{Regular, Optional}
 use Rattle.cue_syntax.specs.declared.tree.Identifier.TheVariants.{Plain, Definition}
-use Rattle.cue_syntax.specs.Syntax.{branch, field, name, definition, close, entries_of, no_entries, FileTree}
+use Rattle.cue_syntax.specs.Syntax.{branch, field, name, definition, close, entries_in, no_entries, FileTree}
 use Rattle.cue_syntax.specs.Grammar.{IsFragment}
 use Rattle.cue_syntax.specs.Unplaced.{unplaced_file}
 use Rattle.cue_syntax.specs.Words.{HasWordLabel}
@@ -35,7 +35,7 @@ a_token_without_a_word : HasWord (Text (0xC3 ∷ [])) → ⊥
 a_token_without_a_word h = no_word h
 
 -- by the longest identifier at the front of each
-no_identifiers : (IsIdentifier (codes "1a") → ⊥) × (IsIdentifier (codes "a-b") → ⊥) × (IsIdentifier (codes "#") → ⊥)
+no_identifiers : (IsIdentifierText (codes "1a") → ⊥) × (IsIdentifierText (codes "a-b") → ⊥) × (IsIdentifierText (codes "#") → ⊥)
 unfolding lexed
 no_identifiers = (
   λ h. let le : 2 ≤ 0 = identifier_longest (codes "1a") (codes "1a") [] h refl in absurd (omega (arith, le)),
@@ -51,10 +51,10 @@ each_place_is_0 : unplaced_file placed ≡ file (field (label (codes "a") Regula
 each_place_is_0 = refl
 
 -- a: 1,
-a_fragment : IsFragment None (entries_of (field (label (codes "a") Regular) [] (number 1) ∷ [])) true
+a_fragment : IsFragment None (entries_in (field (label (codes "a") Regular) [] (number 1) ∷ [])) true
 unfolding lexed
 a_fragment = record { package_clause = search rules; right = search rules; ends = search rules; levels = search rules; words = ((record { utf8 = (codes "a", (refl, refl)); short = search rules }, tt, tt), tt) }
 
 -- a comma behind nothing, a package named as a definition, a label that is half a character, a magnitude that no sign has
-no_fragments : (IsFragment None no_entries true → ⊥) × (IsFragment (Some (record { name = Definition (codes "#a"); comma = true })) no_entries false → ⊥) × (IsFragment None (entries_of (field (label (0xC3 ∷ []) Regular) [] (number 1) ∷ [])) false → ⊥) × (IsFragment None (entries_of (field (label (codes "a") Regular) [] (number 9223372036854775808) ∷ [])) false → ⊥)
+no_fragments : (IsFragment None no_entries true → ⊥) × (IsFragment (Some (record { name = Definition (codes "#a"); comma = true })) no_entries false → ⊥) × (IsFragment None (entries_in (field (label (0xC3 ∷ []) Regular) [] (number 1) ∷ [])) false → ⊥) × (IsFragment None (entries_in (field (label (codes "a") Regular) [] (number 9223372036854775808) ∷ [])) false → ⊥)
 no_fragments = (λ h. h.ends, λ h. h.package_clause, λ h. no_word h.words.0.0, λ h. let e : 9223372036854775808 ≤ 9223372036854775807 = h.right.0 in absurd (omega (arith, e)))

@@ -12,7 +12,7 @@ ghost use Rattle.cue_lattice.specs.declared.refusal.Kind.TheVariants as refusals
 ghost use Rattle.cue_lex.specs.Integers.{literal_number};
 ghost use Rattle.cue_lex.specs.Tokens.{tokens};
 ghost use Rattle.cue_syntax.specs.Spots.{spot_of};
-ghost use Rattle.cue_syntax.specs.declared.spot.Spot.TheVariants as spots;
+ghost use Rattle.cue_syntax.specs.declared.spot.Position.TheVariants as spots;
 ghost use Rattle.cue_scope.specs.Named.{named_of};
 
 /// A bad number is refused at its first byte, `0x1F` is 31, a text begins where a declaration may

@@ -340,12 +340,12 @@ fn word_limit(rt: HostRuntime) -> Result<(), Fail> {
 
 /// A plain string of a word.
 fn plain(word: Option<Word>) -> Option<Quoted> {
-    Some(Quoted::plain(word?))
+    Some(Quoted::as_plain(word?))
 }
 
 /// A string with an escape.
 fn decoded<'a>(alloc: Global) -> Made<Quoted<'a>> {
-    Quoted::decoded(alloc, String::from_str(alloc, "a\n")?)
+    Quoted::from_decoded(alloc, String::from_str(alloc, "a\n")?)
 }
 
 /// Whether it is a string of this text.

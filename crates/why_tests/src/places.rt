@@ -1,5 +1,5 @@
 //! Places by their paths.
-use cue_places::{Found, Step, is_file, place_at, read_path, value_text};
+use cue_places::{Lookup, Step, is_file, place_at, read_path, value_text};
 use cue_replica::Replica;
 use cue_report::lines;
 use std::alloc::Global;
@@ -13,13 +13,13 @@ fn found(alloc: Global, text: &str, path: &str) -> Result<String, Fail> {
         return Ok(String::from_str(alloc, "no path")?);
     };
     match place_at(alloc, site.table(), steps.as_slice())? {
-        Found::Absent => Ok(String::from_str(alloc, "absent")?),
-        Found::Barred(conflict) => {
+        Lookup::Absent => Ok(String::from_str(alloc, "absent")?),
+        Lookup::Barred(conflict) => {
             let mut conflicts = Vec::new(alloc);
             conflicts.push(conflict)?;
             Ok(lines(alloc, conflicts.as_slice(), &[])?)
         }
-        Found::Root(table) => {
+        Lookup::Root(table) => {
             let value = value_text(alloc, &table)?;
             let kind = if is_file(&table) { "file" } else { "value" };
             Ok(format!(in alloc; "{kind} {value}")?)

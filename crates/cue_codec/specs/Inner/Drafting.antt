@@ -5,9 +5,9 @@ use Rattle.cue_row.specs.declared.parts.RowParts.{RowParts as Row}
 use Rattle.cue_table.specs.Slots as slots
 use Rattle.cue_codec.specs.declared.version.Version.{Version}
 use Rattle.cue_codec.specs.Decoding.{NoRows}
-use Rattle.cue_codec.specs.Entry.{Entry, entry_at, told_place}
-use Rattle.cue_codec.specs.Known.{AreRead, IsKnown}
-use Rattle.cue_codec.specs.Reading.{Begins, BeginsNone}
+use Rattle.cue_codec.specs.Entry.{Entry, entry_at, path_of_place}
+use Rattle.cue_codec.specs.Known.{AreRowsRead, IsIndexKnown}
+use Rattle.cue_codec.specs.Reading.{ReadsItem, ReadsNoItem}
 use Rattle.cue_codec.specs.RowBytes.{row_bytes, IsStateRow}
 use Rattle.cue_codec.specs.StateRow.{IsStatePath}
 
@@ -39,10 +39,10 @@ pub record IsDrafting (version : Version) (count left : ℕ)
     (draft : Option (List (slots.Place × Row))) (indexes known : List ℕ) (place : slots.Place)
     : Type 0 where
   pub goes_on : draft ≡ Some (rows_in draft)
-  pub read : AreRead version (rows_bytes version (rows_in draft) indexes) [] count left
+  pub read : AreRowsRead version (rows_bytes version (rows_in draft) indexes) [] count left
       (rows_in draft) indexes known
-  pub steps : IsStatePath version (told_place place)
-  pub placed : IsKnown known place
+  pub steps : IsStatePath version (path_of_place place)
+  pub placed : IsIndexKnown known place
   pub deep : length known ≡ 65
 
 -- one more row was read from the front of bytes
@@ -52,15 +52,15 @@ pub record IsNext (old : RowsRead) (bytes : List ℕ) (new : RowsRead) (rest : L
   pub count : new.count ≡ old.count
   pub left : old.left ≡ new.left + 1
   pub entry : Entry
-  pub begins : Begins (IsStateRow old.version) (row_bytes old.version) entry bytes rest
+  pub begins : ReadsItem (IsStateRow old.version) (row_bytes old.version) entry bytes rest
   pub longer : new.bytes ≡ old.bytes ++ row_bytes old.version entry
 
 -- no rows are these, whatever follows behind which a row that is missing stays missing
 abbrev pub NoneNext : RowsRead → List ℕ → Type 0
 NoneNext old bytes =
     (more : List ℕ)
-    → (BeginsNone (IsStateRow old.version) (row_bytes old.version) bytes
-    → BeginsNone (IsStateRow old.version) (row_bytes old.version) (bytes ++ more))
+    → (ReadsNoItem (IsStateRow old.version) (row_bytes old.version) bytes
+    → ReadsNoItem (IsStateRow old.version) (row_bytes old.version) (bytes ++ more))
     → NoRows old.version old.count (old.bytes ++ (bytes ++ more))
 
 -- more bytes of the rows were taken in
@@ -70,10 +70,10 @@ pub record IsMore (old : RowsRead) (piece : List ℕ) (new : RowsRead) : Type 0 
   pub bytes : new.bytes ≡ old.bytes ++ piece
 
 -- so many rows do not begin with these bytes
-abbrev pub BeginsNoRows : Version → ℕ → List ℕ → Type 0
-BeginsNoRows version count bytes = (more : List ℕ) → NoRows version count (bytes ++ more)
+abbrev pub IsNoRowsPrefix : Version → ℕ → List ℕ → Type 0
+IsNoRowsPrefix version count bytes = (more : List ℕ) → NoRows version count (bytes ++ more)
 
 -- the bytes were taken in, or no rows begin with them
 abbrev pub IsFed : RowsRead → List ℕ → Option RowsRead → Type 0
 IsFed old piece (Some new) = IsMore old piece new
-IsFed old piece None = BeginsNoRows old.version old.count (old.bytes ++ piece)
+IsFed old piece None = IsNoRowsPrefix old.version old.count (old.bytes ++ piece)

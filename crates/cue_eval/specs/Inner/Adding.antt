@@ -13,30 +13,30 @@ use Rattle.cue_row.specs.declared.question.Question as program
 use Rattle.cue_row.specs.declared.step.Step.{Step}
 use Rattle.cue_row.specs.LabelSets.{RefusesLabel}
 use Rattle.cue_row.specs.Questions.{question_of}
-use Rattle.cue_row.specs.Row.{Refuses, IsRow}
+use Rattle.cue_row.specs.Row.{RefusesAsked, IsRow}
 use Rattle.cue_row.specs.Steps.{step_of}
 use Rattle.cue_sets.specs.Texts.{is_text_member}
 use Rattle.cue_scope.specs.Core.{Core, closed}
-use Rattle.cue_scope.specs.Kept.{all_of}
+use Rattle.cue_scope.specs.Kept.{nodes_kept}
 use Rattle.cue_scope.specs.Limits.{size, depth}
-use Rattle.cue_scope.specs.Meaning.{nested}
+use Rattle.cue_scope.specs.Meaning.{nest_in_labels}
 use Rattle.cue_scope.specs.Uses.{uses}
 use Rattle.cue_syntax.specs.declared.tree.Label.{Label}
 use Rattle.cue_syntax.specs.Syntax.{Expression}
 use Rattle.cue_table.specs.Depth.{tree_depth}
 use Rattle.cue_table.specs.Form.{IsTable}
-use Rattle.cue_table.specs.Many.{element_of}
+use Rattle.cue_table.specs.Many.{element_given}
 use Rattle.cue_table.specs.Refuses.{RowRefuses, TableRefuses}
 use Rattle.cue_table.specs.Spans.{Span, field, elements}
 use Rattle.cue_table.specs.Tree.{Tree, row_of, row_at, step_into}
-use Rattle.cue_eval.specs.declared.body.Closed.{Closed}
-use Rattle.cue_eval.specs.declared.left_out.Place.{Place}
+use Rattle.cue_eval.specs.declared.close.Closed.{Closed}
+use Rattle.cue_eval.specs.declared.left_out.ClosingPlace.{ClosingPlace}
 use Rattle.cue_eval.specs.declared.declared.Declared.{Declared}
-use Rattle.cue_eval.specs.declared.declared.Asked.TheVariants.{Stands}
-use Rattle.cue_eval.specs.declared.told.Sight.{Sight}
+use Rattle.cue_eval.specs.declared.declared.DeclaredQuestion.TheVariants.{Stands}
+use Rattle.cue_eval.specs.declared.declares.LiteralScope.{LiteralScope}
 use Rattle.cue_eval.specs.Evaluated.{HasAnswersOf}
-use Rattle.cue_eval.specs.Telling.{Tells}
-use Rattle.cue_eval.specs.Inner.Told.{AreKnown, AreDots, means}
+use Rattle.cue_eval.specs.Telling.{DeclaredRefuses}
+use Rattle.cue_eval.specs.Inner.Told.{AreKnown, AreDots, meaning_in_scope}
 
 -- a finite set of labels may stand, and no other
 abbrev pub OnlyLabels : Option (List (List ℕ)) → Question → Type 0
@@ -57,15 +57,15 @@ AllowsAll row =
 -- what closing adds at a place, where this row tells of the literals that the body writes itself,
 -- this one where a literal has a `...`, and this is refused: the labels that aren't declared, where
 -- no literal has a `...` and no label is left out yet
-abbrev pub Adds : Option Declared → Option Declared → Option Row → Question → Type 0
-Adds None dots row question = ⊥
-Adds (Some here) dots row question =
-    (¬ RowRefuses Tells dots Stands) × AllowsAll row × LeftOut here question
+abbrev pub ClosingAdds : Option Declared → Option Declared → Option Row → Question → Type 0
+ClosingAdds None dots row question = ⊥
+ClosingAdds (Some here) dots row question =
+    (¬ RowRefuses DeclaredRefuses dots Stands) × AllowsAll row × LeftOut here question
 
 abbrev pub IsAddedBy : Tree Declared → Tree Declared → Tree Row → Tree Row → Type 0
 IsAddedBy own dots rows sets = (path : Path) (question : program.Question) →
-    TableRefuses Refuses sets path question
-    ↔ Adds (row_at own path) (row_at dots path) (row_at rows path) (question_of question)
+    TableRefuses RefusesAsked sets path question
+    ↔ ClosingAdds (row_at own path) (row_at dots path) (row_at rows path) (question_of question)
 
 -- the row of a branch that may be there, and that at a path below it
 abbrev pub root_row : {R : Type 0} → Option (Tree R) → Option R
@@ -75,20 +75,20 @@ abbrev pub row_below : {R : Type 0} → Option (Tree R) → Path → Option R
 row_below branch path = option_and_then (λ tree. row_at tree path) branch
 
 -- what closing adds at a place, and at a path below it
-abbrev pub AddsHere : Place → Question → Type 0
-AddsHere place question =
-    Adds (row_of place.own) (root_row place.dots) (root_row place.rows) question
+abbrev pub ClosingAddsHere : ClosingPlace → Question → Type 0
+ClosingAddsHere place question =
+    ClosingAdds (row_of place.own) (root_row place.dots) (root_row place.rows) question
 
-abbrev pub AddsAt : Place → Path → Question → Type 0
-AddsAt place path question =
-    Adds (row_at place.own path) (row_below place.dots path) (row_below place.rows path) question
+abbrev pub ClosingAddsAt : ClosingPlace → Path → Question → Type 0
+ClosingAddsAt place path question =
+    ClosingAdds (row_at place.own path) (row_below place.dots path) (row_below place.rows path) question
 
 -- the branch one step below one that may be there
 abbrev pub step_below : {R : Type 0} → Option (Tree R) → paths.Step → Option (Tree R)
 step_below branch step = option_and_then (λ tree. step_into tree step) branch
 
 -- The second place is one step below the first.
-pub record IsStepInto (place : Place) (step : paths.Step) (below : Place) : Type 0 where
+pub record IsStepInto (place : ClosingPlace) (step : paths.Step) (below : ClosingPlace) : Type 0 where
   pub own : step_into place.own step ≡ Some below.own
   pub dots : below.dots ≡ step_below place.dots step
   pub rows : below.rows ≡ step_below place.rows step
@@ -104,34 +104,34 @@ pub record AreOwnLabels (own : Tree Declared) (steps : List Step) : Type 0 where
   pub labels : (i : ℕ) → ¬ IsAmong steps (index i)
 
 -- The branches refuse what closing adds below these steps, and can be hung in.
-pub record AreAddedAt (place : Place) (steps : List Step)
+pub record AreAddedAt (place : ClosingPlace) (steps : List Step)
     (branches : List (Step × Tree Row)) : Type 0 where
   pub refused : (step : paths.Step) (path : Path) (question : program.Question)
-      → OneOf (λ one. (step_of one.0 ≡ step) × TableRefuses Refuses one.1 path question) branches
-      ↔ (IsAmong steps step × AddsAt place (step ∷ path) (question_of question))
+      → OneOf (λ one. (step_of one.0 ≡ step) × TableRefuses RefusesAsked one.1 path question) branches
+      ↔ (IsAmong steps step × ClosingAddsAt place (step ∷ path) (question_of question))
   pub deep : All (λ one. tree_depth one.1 < step_limit) branches
 
 -- the branches refuse what closing adds below labels, and can be hung in
-abbrev pub AreFields : Place → List (Step × Tree Row) → Type 0
+abbrev pub AreFields : ClosingPlace → List (Step × Tree Row) → Type 0
 AreFields place branches =
     (steps : List Step) × AreOwnLabels place.own steps × AreAddedAt place steps branches
 
 -- The table refuses what closing adds below a place, and nothing there.
-pub record IsAllBelow (place : Place) (all : Tree Row) : Type 0 where
-  pub root : (question : program.Question) → ¬ TableRefuses Refuses all [] question
+pub record IsAllBelow (place : ClosingPlace) (all : Tree Row) : Type 0 where
+  pub root : (question : program.Question) → ¬ TableRefuses RefusesAsked all [] question
   pub below : (step : paths.Step) (path : Path) (question : program.Question)
-      → TableRefuses Refuses all (step ∷ path) question
-      ↔ AddsAt place (step ∷ path) (question_of question)
+      → TableRefuses RefusesAsked all (step ∷ path) question
+      ↔ ClosingAddsAt place (step ∷ path) (question_of question)
 
 -- none of the bounds is behind the first index and up to the second
 abbrev pub NoneBetween : ℕ → ℕ → List ℕ → Type 0
 NoneBetween i j = All (λ bound. (bound ≤ i) ⊎ (j < bound))
 
 -- between bounds closing adds the same in all elements
-abbrev pub AreBounds : Place → List ℕ → Type 0
+abbrev pub AreBounds : ClosingPlace → List ℕ → Type 0
 AreBounds place bounds =
     (i j : ℕ) → i ≤ j → NoneBetween i j bounds → (path : Path) (question : Question)
-    → AddsAt place (index i ∷ path) question ↔ AddsAt place (index j ∷ path) question
+    → ClosingAddsAt place (index i ∷ path) question ↔ ClosingAddsAt place (index j ∷ path) question
 
 -- between bounds all elements of a tree are alike
 abbrev pub AreBoundsOf : {R : Type 0} → Tree R → List ℕ → Type 0
@@ -164,22 +164,22 @@ AreKept old new = (n : ℕ) → Contains old n → Contains new n
 
 -- The stretches are given so far that the elements from an index on have theirs, whatever is given
 -- after them, and no others: those before it are what is given after.
-pub record AreStretches (place : Place) (from : ℕ) (given : List (ℕ × Tree Row)) : Type 0 where
+pub record AreStretches (place : ClosingPlace) (from : ℕ) (given : List (ℕ × Tree Row)) : Type 0 where
   pub reached : (i : ℕ) (more : List (ℕ × Tree Row)) (path : Path) (question : program.Question)
-      → from ≤ i → TableRefuses Refuses (element_of i (given ++ more)) path question
-      ↔ AddsAt place (index i ∷ path) (question_of question)
+      → from ≤ i → TableRefuses RefusesAsked (element_given i (given ++ more)) path question
+      ↔ ClosingAddsAt place (index i ∷ path) (question_of question)
   pub others : (i : ℕ) (more : List (ℕ × Tree Row)) → i < from
-      → element_of i (given ++ more) ≡ element_of i more
+      → element_given i (given ++ more) ≡ element_given i more
 
 -- of a body it is known what closing asks
-abbrev pub IsBodyKnown : Sight → List Label → Expression → Type 0
+abbrev pub IsBodyKnown : LiteralScope → List Label → Expression → Type 0
 IsBodyKnown known chain e =
-    AreKnown known (uses (all_of known.definitions.now) e) (size (means known e))
-    (depth (nested chain (means known e)))
+    AreKnown known (uses (nodes_kept known.definitions.now) e) (size (meaning_in_scope known e))
+    (depth (nest_in_labels chain (meaning_in_scope known e)))
 
 -- The rows refuse what the body refuses where it is closed, and the dots are those of all its
 -- literals.
 pub record IsClosedBody (c : Core) (body : Closed) : Type 0 where
-  pub form : IsTable Refuses IsRow body.rows
+  pub form : IsTable RefusesAsked IsRow body.rows
   pub answers : HasAnswersOf (closed c) body.rows
   pub dots : AreDots c body.dots

@@ -5,7 +5,7 @@ use Rattle.cue_lattice.specs.Path as paths
 use Rattle.cue_lattice.specs.Path.{Path, label, index}
 use Rattle.cue_lattice.specs.Question.{Question, allows, Refusals}
 use Rattle.cue_row.specs.LabelSets.{RefusesLabel}
-use Rattle.cue_row.specs.Row.{RowRefuses}
+use Rattle.cue_row.specs.Row.{RowRefusesQuestion}
 use Rattle.cue_row.specs.Steps.{step_of}
 use Rattle.cue_row.specs.declared.parts.RowParts.{RowParts as Row}
 use Rattle.cue_row.specs.declared.step.Step.{Step}
@@ -15,8 +15,8 @@ use Rattle.cue_scope.specs.Core.{Elements}
 use Rattle.cue_eval.specs.Refuses.{ElementRefuses}
 
 -- what a table of rows refuses
-abbrev pub Answers : Tree Row → Refusals
-Answers table = TableRefuses RowRefuses table
+abbrev pub TreeRefusals : Tree Row → Refusals
+TreeRefusals table = TableRefuses RowRefusesQuestion table
 
 -- the labels that a set leaves out
 abbrev pub LabelsRefuse : Option (List (List ℕ)) → Question → Type 0
@@ -26,7 +26,7 @@ LabelsRefuse labels _ = ⊥
 -- at a step and then a path: what the tables refuse that are given for this step
 abbrev pub GivenRefuse : List (Step × Tree Row) → paths.Step → Path → Question → Type 0
 GivenRefuse given step path question =
-    OneOf (λ one. (step_of one.0 ≡ step) × Answers one.1 path question) given
+    OneOf (λ one. (step_of one.0 ≡ step) × TreeRefusals one.1 path question) given
 
 -- a literal: at its own place what it refuses itself, and below it what is given
 abbrev pub LiteralAnswers : (Question → Type 0) → List (Step × Tree Row) → Refusals

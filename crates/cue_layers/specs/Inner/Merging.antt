@@ -7,8 +7,8 @@ use Rattle.cue_lattice.specs.Path.{Path}
 use Rattle.cue_lattice.specs.Question.{Question, IsAsNarrowAs}
 use Rattle.cue_replica.specs.Language.{language}
 use Rattle.cue_layers.specs.declared.layer.Layer.{Layer}
-use Rattle.cue_layers.specs.Layers.{IsBefore, IsInOrder, IsLayer, key_of}
-use Rattle.cue_layers.specs.Puts.{Has, of_layers}
+use Rattle.cue_layers.specs.Layers.{IsKeyBefore, IsInOrder, IsLayer, key_of}
+use Rattle.cue_layers.specs.Puts.{HasElement, of_layers}
 use Rattle.cue_layers.specs.Inner.Covers.{IsCovered, Covers}
 
 -- where both layers have one key and one revision, the second refuses what the first does
@@ -35,7 +35,7 @@ pub record IsTied (own : List Layer) (other tied : Layer) : Type 0 where
 
 -- all ties of two lists
 abbrev pub HaveTies : List Layer → List Layer → Type 0
-HaveTies own others = (x y : Layer) → Has own x → Has others y → IsTieOf x y
+HaveTies own others = (x y : Layer) → HasElement own x → HasElement others y → IsTieOf x y
 
 -- the last layer of each
 pub record HaveLast (own others : List Layer) (x y : Layer) : Type 0 where
@@ -47,10 +47,10 @@ pub record HaveLast (own others : List Layer) (x y : Layer) : Type 0 where
 -- how the last layers of two lists compare; a list without any comes first
 abbrev pub IsLastOrder : List Layer → List Layer → Ordering → Type 0
 IsLastOrder own others Less =
-    (own ≡ []) ⊎ ((x : Layer) × (y : Layer) × HaveLast own others x y × IsBefore (key_of x) (key_of y))
+    (own ≡ []) ⊎ ((x : Layer) × (y : Layer) × HaveLast own others x y × IsKeyBefore (key_of x) (key_of y))
 IsLastOrder own others Greater =
     (0 < length own) × ((others ≡ [])
-    ⊎ ((x : Layer) × (y : Layer) × HaveLast own others x y × IsBefore (key_of y) (key_of x)))
+    ⊎ ((x : Layer) × (y : Layer) × HaveLast own others x y × IsKeyBefore (key_of y) (key_of x)))
 IsLastOrder own others Equal =
     (x : Layer) × (y : Layer) × HaveLast own others x y × (key_of x ≡ key_of y)
 
@@ -61,10 +61,10 @@ pub record TakesLast (own others : List Layer) (x : Layer) (own_left others_left
   pub others_taken : List Layer
   pub own_parts : own ≡ own_left ++ own_taken
   pub others_parts : others ≡ others_left ++ others_taken
-  pub some : Has (own_taken ++ others_taken) x
+  pub some : HasElement (own_taken ++ others_taken) x
   pub covers : Covers of_layers of_layers (own_taken ++ others_taken) (x ∷ [])
-  pub own_before : AllByRecursion (λ y. IsBefore (key_of y) (key_of x)) own_left
-  pub others_before : AllByRecursion (λ y. IsBefore (key_of y) (key_of x)) others_left
+  pub own_before : AllByRecursion (λ y. IsKeyBefore (key_of y) (key_of x)) own_left
+  pub others_before : AllByRecursion (λ y. IsKeyBefore (key_of y) (key_of x)) others_left
   pub shorter : length own_left + length others_left < length own + length others
 
 -- both are empty
@@ -74,5 +74,5 @@ AreEmpty own others = (own ≡ []) × (others ≡ [])
 -- a list in order of some layers of two lists, which speaks for all of them
 pub record IsMerged (own others merged : List Layer) : Type 0 where
   pub in_order : IsInOrder merged
-  pub some : (x : Layer) → Has merged x → Has (own ++ others) x
+  pub some : (x : Layer) → HasElement merged x → HasElement (own ++ others) x
   pub covers : Covers of_layers of_layers (own ++ others) merged

@@ -8,9 +8,9 @@ MayStand index before b =
     (index < name_limit) × MayFollow before b × ((index + 1 < name_limit) ⊎ (b ≢ slash))
 
 -- each byte may follow the one before it
-abbrev pub Follow : ℕ → List ℕ → Type 0
-Follow before [] = Unit {0}
-Follow before (b ∷ bytes) = MayFollow before b × Follow b bytes
+abbrev pub NameFollows : ℕ → List ℕ → Type 0
+NameFollows before [] = Unit {0}
+NameFollows before (b ∷ bytes) = MayFollow before b × NameFollows b bytes
 
 -- the last byte
 abbrev pub last_of : ℕ → List ℕ → ℕ

@@ -2,7 +2,7 @@
 use Rattle.std.specs.Prelude.{◌≡◌, ℕ, List, ◌∷◌, ◌++◌, length}
 use Rattle.std.specs.List.{AllByRecursion}
 use Rattle.cue_layers.specs.declared.layer.Layer.{Layer}
-use Rattle.cue_layers.specs.Layers.{Key, key_of, IsBefore}
+use Rattle.cue_layers.specs.Layers.{Key, key_of, IsKeyBefore}
 
 -- the layer at this index has the key
 pub record IsPlace (layers : List Layer) (key : Key) (at : ℕ) : Type 0 where
@@ -19,5 +19,5 @@ pub record IsGap (layers : List Layer) (key : Key) (at : ℕ) : Type 0 where
   pub back : List Layer
   pub parts : layers ≡ front ++ back
   pub count : length front ≡ at
-  pub before : AllByRecursion (λ layer. IsBefore (key_of layer) key) front
-  pub behind : AllByRecursion (λ layer. IsBefore key (key_of layer)) back
+  pub before : AllByRecursion (λ layer. IsKeyBefore (key_of layer) key) front
+  pub behind : AllByRecursion (λ layer. IsKeyBefore key (key_of layer)) back

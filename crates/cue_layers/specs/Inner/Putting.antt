@@ -7,7 +7,7 @@ use Rattle.cue_replica.specs.Language.{Table, language}
 use Rattle.cue_layers.specs.declared.layer.Layer.{Layer}
 use Rattle.cue_layers.specs.Layers.{key}
 use Rattle.cue_layers.specs.Maps.{IsJoin}
-use Rattle.cue_layers.specs.Puts.{of_layers, IsNext}
+use Rattle.cue_layers.specs.Puts.{of_layers, IsNextRevision}
 
 -- the table may be that of a layer of this kind
 pub record MayPut (kind : LayerKind) (content : Table) : Type 0 where
@@ -16,7 +16,7 @@ pub record MayPut (kind : LayerKind) (content : Table) : Type 0 where
 
 pub record Replaces (old : List Layer) (kind : LayerKind) (name : List ℕ) (content : Table)
     (new : List Layer) (revision : ℕ) : Type 0 where
-  pub is_next : IsNext of_layers old (key kind name) revision
+  pub is_next : IsNextRevision of_layers old (key kind name) revision
   pub small : revision < 2 ^ 64
   pub joined : IsJoin old
       (record { kind = kind; name = name; revision = revision; content = content } ∷ []) new

@@ -11,8 +11,8 @@ use Rattle.cue_layers.specs.declared.layer.Layer.{Layer}
 use Rattle.cue_layers.specs.declared.refusal.LayersRefusal.{LayersRefusal}
 use Rattle.cue_layers.specs.declared.refusal.LayersRefusal.TheVariants.{NotLayers}
 use Rattle.cue_layers.specs.Bytes.{block_bytes}
-use Rattle.cue_layers.specs.Layers.{IsLayer, IsMap, IsInOrder, IsBefore, BeginsWithCommons, kind_byte, key_of}
-use Rattle.cue_layers.specs.Names.{IsName}
+use Rattle.cue_layers.specs.Layers.{IsLayer, IsMap, IsInOrder, IsKeyBefore, BeginsWithCommons, kind_byte, key_of}
+use Rattle.cue_layers.specs.Names.{IsLayerName}
 use Rattle.cue_layers.specs.Refusals.{out_of_memory}
 
 -- one thing and another one behind it
@@ -39,16 +39,16 @@ abbrev pub IsLong : List ℕ → Type 0
 IsLong bytes = length bytes < 2 ^ 64
 
 -- the kind and the name; the revision and the state bytes
-abbrev pub Parts : Type 0
-Parts = (LayerKind × List ℕ) × (ℕ × List ℕ)
+abbrev pub LayerParts : Type 0
+LayerParts = (LayerKind × List ℕ) × (ℕ × List ℕ)
 
-abbrev pub AreParts : Parts → Type 0
+abbrev pub AreParts : LayerParts → Type 0
 AreParts = AreBoth (AreBoth IsKind IsShort) (AreBoth IsWide IsLong)
 
-abbrev pub parts_bytes : Parts → List ℕ
+abbrev pub parts_bytes : LayerParts → List ℕ
 parts_bytes = both_bytes (both_bytes kind_bytes text_bytes) (both_bytes wide_bytes block_bytes)
 
-abbrev pub parts_of : Layer → Parts
+abbrev pub parts_of : Layer → LayerParts
 parts_of layer =
     ((layer.kind, layer.name), (layer.revision, language.written layer.content))
 
@@ -60,7 +60,7 @@ pub record IsHeld (layer : Layer) : Type 0 where
 -- a layer with this key may have the revision
 abbrev pub MayHave : LayerKind → List ℕ → ℕ → Type 0
 MayHave kind name revision =
-    ((kind ≡ kinds.Layer) × (name ≡ []) × (revision ≡ 0)) ⊎ (IsName name × (0 < revision))
+    ((kind ≡ kinds.Layer) × (name ≡ []) × (revision ≡ 0)) ⊎ (IsLayerName name × (0 < revision))
 
 -- why layers are refused for a reason
 abbrev pub IsRefusedFor : LayersRefusal → Type 0 → Type 0
@@ -77,7 +77,7 @@ abbrev pub IsBehind : List Layer → Layer → Type 0
 IsBehind layers layer =
     ((layers ≡ []) × (layer.name ≡ []))
     ⊎ ((front : List Layer) × (last : Layer) × (layers ≡ front ++ last ∷ [])
-    × IsBefore (key_of last) (key_of layer))
+    × IsKeyBefore (key_of last) (key_of layer))
 
 -- so many layers, which are a map
 abbrev pub AreSoManyOfMap : ℕ → List Layer → Type 0

@@ -6,60 +6,60 @@ use Rattle.cue_lattice.specs.World.{AllAlong, Piece}
 use Rattle.cue_policies.specs.declared.kind.LayerKind.{LayerKind}
 use Rattle.cue_replica.specs.Language.{language}
 use Rattle.cue_layers.specs.Bytes.{layers_bytes, IsLayersBytes, IsLayersRefusal}
-use Rattle.cue_layers.specs.Join.{IsPut, CommonsGrows}
+use Rattle.cue_layers.specs.Join.{IsOnePut, CommonsGrows}
 use Rattle.cue_layers.specs.Layers.{IsMap}
 use Rattle.cue_layers.specs.Maps.{IsJoin}
 use Rattle.cue_layers.specs.Refusals as layers
 use Rattle.cue_layers.specs.Refusals.{out_of_memory}
 use Rattle.cue_layers.specs.declared.layer.Layer.{Layer}
-use Rattle.cue_layers_world.specs.Refusals.{IsTextRefusal, IsStateRefusal}
-use Rattle.cue_layers_world.specs.Sites.{IsSiteOf, IsMessageOf}
-use Rattle.cue_layers_world.specs.World.{Sets, Happens, IsMarked}
-use Rattle.cue_layers_world.specs.declared.world.Event.{Event}
-use Rattle.cue_layers_world.specs.declared.world.Outcome.{Outcome}
-use Rattle.cue_layers_world.specs.declared.world.Outcome.TheVariants as outcomes
+use Rattle.cue_layers_world.specs.Refusals.{IsLayersTextRefusal, IsLayersStateRefusal}
+use Rattle.cue_layers_world.specs.Sites.{IsSiteOf, IsMessageOfMap}
+use Rattle.cue_layers_world.specs.World.{LayerSets, LayersHappen, IsMarked}
+use Rattle.cue_layers_world.specs.declared.world.LayersEvent.{LayersEvent}
+use Rattle.cue_layers_world.specs.declared.world.LayersOutcome.{LayersOutcome}
+use Rattle.cue_layers_world.specs.declared.world.LayersOutcome.TheVariants as outcomes
 
 -- the map of a site
 abbrev pub Map : Type 0
 Map = List Layer
 
 -- each site and each message is what its set of puts makes it
-pub record Agrees (maps : List Map) (messages : List (Vec ℕ Global)) (sets : Sets) : Type 0 where
+pub record MapsAgree (maps : List Map) (messages : List (Vec ℕ Global)) (sets : LayerSets) : Type 0 where
   pub sites : AllAlong IsSiteOf maps sets.sites
-  pub sent : AllAlong IsMessageOf messages sets.messages
+  pub sent : AllAlong IsMessageOfMap messages sets.messages
 
 -- What may happen at a site: there is none of this number, and nothing changes; or its map, and no
 -- other, takes a step.
-abbrev pub HappensAt : (Map → Map → Outcome → Type 0) → List Map → ℕ → List Map → Outcome → Type 0
-HappensAt Step old site new outcome =
+abbrev pub HappensAtMap : (Map → Map → LayersOutcome → Type 0) → List Map → ℕ → List Map → LayersOutcome → Type 0
+HappensAtMap Step old site new outcome =
     ((length old ≤ site) × (new ≡ old) × (outcome ≡ outcomes.NoSuch))
     ⊎ ((before after : Map) × (slice_get old site ≡ Some before)
     × (new ≡ slice_set old site after) × Step before after outcome)
 
 -- an owner puts something
-abbrev pub Puts : LayerKind → List ℕ → List Piece → Map → Map → Outcome → Type 0
-Puts kind name pieces before after (outcomes.Put revision) =
-    IsPut before kind name pieces after revision
-Puts kind name pieces before after (outcomes.Refused why) =
+abbrev pub PutsLayer : LayerKind → List ℕ → List Piece → Map → Map → LayersOutcome → Type 0
+PutsLayer kind name pieces before after (outcomes.Put revision) =
+    IsOnePut before kind name pieces after revision
+PutsLayer kind name pieces before after (outcomes.Refused why) =
     (after ≡ before) × layers.IsPutRefusal before kind name pieces why
-Puts kind name pieces before after outcome = ⊥
+PutsLayer kind name pieces before after outcome = ⊥
 
 -- a text goes into the commons
-abbrev pub Submits : List ℕ → Map → Map → Outcome → Type 0
-Submits text before after outcomes.Accepted =
+abbrev pub SubmitsToMap : List ℕ → Map → Map → LayersOutcome → Type 0
+SubmitsToMap text before after outcomes.Accepted =
     language.IsLegal text × CommonsGrows before (language.text_refuses text) after × IsMap after
-Submits text before after (outcomes.Refused why) = (after ≡ before) × IsTextRefusal text why
-Submits text before after outcome = ⊥
+SubmitsToMap text before after (outcomes.Refused why) = (after ≡ before) × IsLayersTextRefusal text why
+SubmitsToMap text before after outcome = ⊥
 
 -- state bytes go into the commons
-abbrev pub Takes : List ℕ → Map → Map → Outcome → Type 0
-Takes bytes before after outcomes.Accepted =
+abbrev pub TakesIntoMap : List ℕ → Map → Map → LayersOutcome → Type 0
+TakesIntoMap bytes before after outcomes.Accepted =
     language.IsState bytes × CommonsGrows before (language.state_refuses bytes) after × IsMap after
-Takes bytes before after (outcomes.Refused why) = (after ≡ before) × IsStateRefusal bytes why
-Takes bytes before after outcome = ⊥
+TakesIntoMap bytes before after (outcomes.Refused why) = (after ≡ before) × IsLayersStateRefusal bytes why
+TakesIntoMap bytes before after outcome = ⊥
 
 -- the map with these layers bytes is joined
-abbrev pub Joins : List ℕ → Map → Map → Outcome → Type 0
+abbrev pub Joins : List ℕ → Map → Map → LayersOutcome → Type 0
 Joins bytes before after outcomes.Accepted =
     (other : Map) × IsLayersBytes bytes other × IsJoin before other after
 Joins bytes before after (outcomes.Refused why) = (after ≡ before) × IsLayersRefusal bytes why
@@ -70,30 +70,30 @@ abbrev pub IsHeld : List ℕ → Type 0
 IsHeld bytes = length bytes < 2 ^ 64
 
 -- bytes from outside are joined as layers, or put into the commons as a state
-abbrev pub TakesForeign : List ℕ → List Map → ℕ → List Map → Outcome → Type 0
+abbrev pub TakesForeign : List ℕ → List Map → ℕ → List Map → LayersOutcome → Type 0
 TakesForeign bytes old site new outcome =
     IsHeld bytes
-    × ((IsMarked bytes × HappensAt (Joins bytes) old site new outcome)
-    ⊎ ((¬ IsMarked bytes) × HappensAt (Takes bytes) old site new outcome))
+    × ((IsMarked bytes × HappensAtMap (Joins bytes) old site new outcome)
+    ⊎ ((¬ IsMarked bytes) × HappensAtMap (TakesIntoMap bytes) old site new outcome))
 
 -- a map is sent: its layers bytes become the next message
-abbrev pub Sends : List Map → ℕ → List (Vec ℕ Global) → List (Vec ℕ Global) → Outcome → Type 0
-Sends sites site old new (outcomes.Sent number) =
+abbrev pub SendsMap : List Map → ℕ → List (Vec ℕ Global) → List (Vec ℕ Global) → LayersOutcome → Type 0
+SendsMap sites site old new (outcomes.Sent number) =
     (map : Map) × (bytes : Vec ℕ Global) × (slice_get sites site ≡ Some map)
     × (bytes.items ≡ layers_bytes map)
     × (number ≡ length old) × (new ≡ old ++ bytes ∷ [])
-Sends sites site old new (outcomes.Refused why) =
+SendsMap sites site old new (outcomes.Refused why) =
     (site < length sites) × (why ≡ out_of_memory) × (new ≡ old)
-Sends sites site old new outcomes.NoSuch = (length sites ≤ site) × (new ≡ old)
-Sends sites site old new outcome = ⊥
+SendsMap sites site old new outcomes.NoSuch = (length sites ≤ site) × (new ≡ old)
+SendsMap sites site old new outcome = ⊥
 
 -- a message is joined at a site: there is none of this number, and nothing changes; or its bytes
 -- are joined
-abbrev pub Delivers : List (Vec ℕ Global) → ℕ → List Map → ℕ → List Map → Outcome → Type 0
-Delivers messages message old site new outcome =
+abbrev pub DeliversMap : List (Vec ℕ Global) → ℕ → List Map → ℕ → List Map → LayersOutcome → Type 0
+DeliversMap messages message old site new outcome =
     ((length messages ≤ message) × (new ≡ old) × (outcome ≡ outcomes.NoSuch))
     ⊎ ((bytes : Vec ℕ Global) × (slice_get messages message ≡ Some bytes) × IsHeld bytes.items
-    × HappensAt (Joins bytes.items) old site new outcome)
+    × HappensAtMap (Joins bytes.items) old site new outcome)
 
 -- at most one message more, and no less room
 pub record KeepsRoom (old new : Vec (Vec ℕ Global) Global) : Type 0 where
@@ -102,7 +102,7 @@ pub record KeepsRoom (old new : Vec (Vec ℕ Global) Global) : Type 0 where
 
 -- What an event leaves, by the sets before it: with this outcome it leads to some sets, and sites
 -- and messages agree with all sets to which it leads.
-pub record Steps (event : Event) (sites : List Map) (messages : List (Vec ℕ Global))
-    (outcome : Outcome) (sets : Sets) : Type 0 where
-  pub some : (next : Sets) × Happens sets event outcome next
-  pub every : (next : Sets) → Happens sets event outcome next → Agrees sites messages next
+pub record StepsMaps (event : LayersEvent) (sites : List Map) (messages : List (Vec ℕ Global))
+    (outcome : LayersOutcome) (sets : LayerSets) : Type 0 where
+  pub some : (next : LayerSets) × LayersHappen sets event outcome next
+  pub every : (next : LayerSets) → LayersHappen sets event outcome next → MapsAgree sites messages next

@@ -5,6 +5,6 @@ use Rattle.cue_lattice.specs.declared.refusal.Refusal.{Refusal}
 use Rattle.cue_lex.specs.declared.token.Token.{Token}
 
 -- tokens in front of the others
-abbrev pub prepended : List Token → Result (List Token) Refusal → Result (List Token) Refusal
-prepended front (Ok found) = Ok (front ++ found)
-prepended front (Err refusal) = Err refusal
+abbrev pub prepend_tokens : List Token → Result (List Token) Refusal → Result (List Token) Refusal
+prepend_tokens front (Ok found) = Ok (front ++ found)
+prepend_tokens front (Err refusal) = Err refusal

@@ -2,11 +2,11 @@
 use Rattle.std.specs.Prelude.{ℕ, List}
 use Rattle.std.specs.Prelude.{Option, Some, None}
 use Rattle.cue_lattice.specs.declared.refusal.Refusal.{Refusal}
-use Rattle.cue_net.specs.Told.{AllAccept, IsFirstRefusal}
+use Rattle.cue_net.specs.Told.{AllRepliesAccept, IsFirstRefusal}
 
 -- what the first refusal is, where there is one
 abbrev pub IsFound : List (List ℕ) → Option (Refusal × ℕ) → Type 0
-IsFound replies None = AllAccept replies
+IsFound replies None = AllRepliesAccept replies
 IsFound replies (Some found) = IsFirstRefusal replies found.0 found.1
 
 -- the first of what was found before and what is found at this number

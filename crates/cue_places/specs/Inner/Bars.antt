@@ -2,7 +2,7 @@
 use Rattle.std.specs.Prelude.{ℕ, Bool, take}
 use Rattle.cue_lattice.specs.Path.{Path}
 use Rattle.cue_lattice.specs.Question.{Refusals}
-use Rattle.cue_row.specs.Row.{RowRefuses}
+use Rattle.cue_row.specs.Row.{RowRefusesQuestion}
 use Rattle.cue_row.specs.declared.parts.RowParts.{RowParts as Row}
 use Rattle.cue_places.specs.Places.{IsFirstBar}
 use Rattle.cue_places.specs.declared.bars.Bar.{Bar}
@@ -13,4 +13,4 @@ IsBarOf refuses path bar =
 
 -- what a row refuses, at whatever path
 abbrev pub at_row : Row → Refusals
-at_row row path question = RowRefuses row question
+at_row row path question = RowRefusesQuestion row question

@@ -4,22 +4,22 @@ use Rattle.cue_lattice.specs.Meets.{at_label, at_index}
 use Rattle.cue_lattice.specs.Path.{label, index, Path}
 use Rattle.cue_lattice.specs.Question.{Refusals}
 use Rattle.cue_policies.specs.Patterns.{IsPatternOf}
-use Rattle.cue_policies.specs.View.{Part, IsLevel}
+use Rattle.cue_policies.specs.View.{ViewedPart, IsLevelInView}
 use Rattle.cue_policies.specs.declared.kind.LayerKind.{LayerKind}
 
 -- what is refused but for a level of the root
 abbrev pub Loose : Refusals → Refusals
-Loose refuses [] question = refuses [] question × ¬ IsLevel question
+Loose refuses [] question = refuses [] question × ¬ IsLevelInView question
 Loose refuses (step ∷ path) question = refuses (step ∷ path) question
 
 -- what a part refuses below a label that is no pattern, below one that is, and below an index
-abbrev pub below_name : Part → List ℕ → Part
+abbrev pub below_name : ViewedPart → List ℕ → ViewedPart
 below_name part own = record { kind = part.kind; refuses = at_label part.refuses own }
 
-abbrev pub below_pattern : Part → List ℕ → Part
+abbrev pub below_pattern : ViewedPart → List ℕ → ViewedPart
 below_pattern part own = record { kind = part.kind; refuses = Loose (at_label part.refuses own) }
 
-abbrev pub below_index : Part → ℕ → Part
+abbrev pub below_index : ViewedPart → ℕ → ViewedPart
 below_index part i = record { kind = part.kind; refuses = at_index part.refuses i }
 
 -- a label of the path is a pattern

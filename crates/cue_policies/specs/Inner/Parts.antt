@@ -6,7 +6,7 @@ use Rattle.cue_lattice.specs.OneOf.{OneOf}
 use Rattle.cue_lattice.specs.Path.{label, index, Path}
 use Rattle.cue_lattice.specs.Question.{Question, Refusals}
 use Rattle.cue_row.specs.Made.{at_level}
-use Rattle.cue_row.specs.Row.{Refuses, IsRow}
+use Rattle.cue_row.specs.Row.{RefusesAsked, IsRow}
 use Rattle.cue_row.specs.Steps.{step_of}
 use Rattle.cue_row.specs.ValidRow.{IsWord}
 use Rattle.cue_row.specs.declared.level.Level.TheVariants.{Optional}
@@ -15,12 +15,12 @@ use Rattle.cue_row.specs.declared.step.Step.{Step}
 use Rattle.cue_table.specs.Depth.{tree_depth}
 use Rattle.cue_table.specs.Form.{IsTable}
 use Rattle.cue_table.specs.Inner.ValidWalk.{IsSound}
-use Rattle.cue_table.specs.Tree.{Tree, empty, row_of, rest_of, rest_tree, fixed_of, step_into}
+use Rattle.cue_table.specs.Tree.{Tree, empty, row_of, rest_below, rest_at, fixed_of, step_into}
 use Rattle.cue_table.specs.Valid.{IsOpenStruct}
-use Rattle.cue_policies.specs.Patterns.{IsPatternOf, Fits}
-use Rattle.cue_policies.specs.View.{Part, IsLevel, Declares, ViewRefuses}
+use Rattle.cue_policies.specs.Patterns.{IsPatternOf, MatchesPattern}
+use Rattle.cue_policies.specs.View.{ViewedPart, IsLevelInView, DeclaresAt, ViewRefuses}
 use Rattle.cue_policies.specs.WellFormed.{HasPatternInList}
-use Rattle.cue_policies.specs.Inner.Answers.{Answers}
+use Rattle.cue_policies.specs.Inner.Answers.{PolicyTreeRefusals}
 use Rattle.cue_policies.specs.declared.kind.LayerKind.{LayerKind}
 use Rattle.cue_policies.specs.declared.kind.LayerKind.TheVariants as kinds
 use Rattle.cue_policies.specs.declared.part.Role.{Role}
@@ -45,9 +45,9 @@ IsLoose roles.Policy = ⊥
 IsLoose roles.Pattern = Unit {0}
 
 -- what a place refuses in its role
-abbrev pub held : Role → Tree Row → Refusals
-held role tree [] question = Answers tree [] question × ¬ (IsLoose role × IsLevel question)
-held role tree (step ∷ path) question = Answers tree (step ∷ path) question
+abbrev pub refused_in_role : Role → Tree Row → Refusals
+refused_in_role role tree [] question = PolicyTreeRefusals tree [] question × ¬ (IsLoose role × IsLevelInView question)
+refused_in_role role tree (step ∷ path) question = PolicyTreeRefusals tree (step ∷ path) question
 
 -- a row in its role
 abbrev pub held_row : Role → Row → Row
@@ -55,8 +55,8 @@ held_row roles.Layer row = row
 held_row roles.Policy row = row
 held_row roles.Pattern row = at_level Optional row
 
-abbrev pub part_of : ViewPart → Part
-part_of part = record { kind = kind_of part.role; refuses = held part.role part.branch }
+abbrev pub part_of : ViewPart → ViewedPart
+part_of part = record { kind = kind_of part.role; refuses = refused_in_role part.role part.branch }
 
 -- the parts of the root: a table for all layers proper, and one for all policies
 abbrev pub two_parts : Tree Row → Tree Row → List ViewPart
@@ -94,52 +94,52 @@ GainsLabels patterns old part new =
     (l : List ℕ) → IsIn l new ↔ (IsIn l old ⊎ HasLabel patterns part l)
 
 -- the other part is what a part has at the label, in this role
-abbrev pub HasAt : ViewPart → Role → List ℕ → ViewPart → Type 0
-HasAt part role l next = (step_into part.branch (label l) ≡ Some next.branch) × (next.role ≡ role)
+abbrev pub HasPartAt : ViewPart → Role → List ℕ → ViewPart → Type 0
+HasPartAt part role l next = (step_into part.branch (label l) ≡ Some next.branch) × (next.role ≡ role)
 
 -- the other part is what a part has at one of these patterns that fits the label
 abbrev pub IsBoundBelow : List (List ℕ) → List ℕ → ViewPart → ViewPart → Type 0
 IsBoundBelow patterns l part next =
-    OneOf (λ own. IsPatternOf (kind_of part.role) own × Fits own l × HasAt part roles.Pattern own next)
+    OneOf (λ own. IsPatternOf (kind_of part.role) own × MatchesPattern own l × HasPartAt part roles.Pattern own next)
     patterns
 
 -- the other part is what a part has for the label
 abbrev pub IsBelow : List (List ℕ) → List ℕ → ViewPart → ViewPart → Type 0
 IsBelow patterns l part next =
-    ((¬ IsPatternOf (kind_of part.role) l) × HasAt part (role_below part.role) l next)
+    ((¬ IsPatternOf (kind_of part.role) l) × HasPartAt part (role_below part.role) l next)
     ⊎ IsBoundBelow patterns l part next
 
 -- what a part refuses but at labels
 abbrev pub PlaceRefuses : ViewPart → Refusals
-PlaceRefuses part [] question = held part.role part.branch [] question
+PlaceRefuses part [] question = refused_in_role part.role part.branch [] question
 PlaceRefuses part (label l ∷ path) question = ⊥
-PlaceRefuses part (index i ∷ path) question = Answers part.branch (index i ∷ path) question
+PlaceRefuses part (index i ∷ path) question = PolicyTreeRefusals part.branch (index i ∷ path) question
 
 abbrev pub IsPlace : ViewPart → Tree Row → Type 0
 IsPlace part table =
-    (path : Path) (question : Question) → Answers table path question ↔ PlaceRefuses part path question
+    (path : Path) (question : Question) → PolicyTreeRefusals table path question ↔ PlaceRefuses part path question
 
 -- what the parts refuse together, but at labels
 abbrev pub ArePlaces : List ViewPart → Tree Row → Type 0
 ArePlaces parts table =
     (path : Path) (question : Question)
-    → Answers table path question ↔ OneOf (λ part. PlaceRefuses part path question) parts
+    → PolicyTreeRefusals table path question ↔ OneOf (λ part. PlaceRefuses part path question) parts
 
 -- what a place refuses in its elements
 abbrev pub ElementsRefuse : Tree Row → Refusals
 ElementsRefuse tree [] question = ⊥
 ElementsRefuse tree (label l ∷ path) question = ⊥
-ElementsRefuse tree (index i ∷ path) question = Answers tree (index i ∷ path) question
+ElementsRefuse tree (index i ∷ path) question = PolicyTreeRefusals tree (index i ∷ path) question
 
 -- what the rest of a list refuses in its elements
 abbrev pub RestRefuses : Tree Row → Refusals
 RestRefuses tree path question =
     (i : ℕ) × (behind : Path) × (rest : Tree Row) × (path ≡ index i ∷ behind)
-    × (rest_tree (rest_of tree) ≡ Some rest) × (fixed_of tree ≤ i) × Answers rest behind question
+    × (rest_at (rest_below tree) ≡ Some rest) × (fixed_of tree ≤ i) × PolicyTreeRefusals rest behind question
 
 abbrev pub IsElements : Tree Row → Tree Row → Type 0
 IsElements tree table =
-    (path : Path) (question : Question) → Answers table path question ↔ ElementsRefuse tree path question
+    (path : Path) (question : Question) → PolicyTreeRefusals table path question ↔ ElementsRefuse tree path question
 
 -- a place of a valid table
 abbrev pub IsSoundTree : Tree Row → Type 0
@@ -147,9 +147,9 @@ IsSoundTree tree = (tree ≡ empty) ⊎ IsSound tree
 
 -- A part is a place of a valid table, and a policy has no pattern in a list.
 pub record IsSoundPart (part : ViewPart) : Type 0 where
-  pub form : IsTable Refuses IsRow part.branch
+  pub form : IsTable RefusesAsked IsRow part.branch
   pub sound : IsSoundTree part.branch
-  pub lists : (path : Path) (question : Question) → Answers part.branch path question
+  pub lists : (path : Path) (question : Question) → PolicyTreeRefusals part.branch path question
       → ¬ ((kind_of part.role ≡ kinds.Policy) × HasPatternInList path)
 
 abbrev pub AreSoundParts : List ViewPart → Type 0
@@ -180,13 +180,13 @@ pub record IsField (parts : List ViewPart) (field : Step × Tree Row) : Type 0 w
   pub at : List ℕ
   pub is : step_of field.0 ≡ label at
   pub word : IsWord at
-  pub form : IsTable Refuses IsRow field.1
+  pub form : IsTable RefusesAsked IsRow field.1
   pub fit : IsFit false field.1
   pub refused : (path : Path) (question : Question)
-      → Answers field.1 path question ↔ PartsRefuse parts (label at ∷ path) question
+      → PolicyTreeRefusals field.1 path question ↔ PartsRefuse parts (label at ∷ path) question
 
 -- the fields of the view: each is one of a label that the parts declare, and none is left out
 pub record AreFields (parts : List ViewPart) (fields : List (Step × Tree Row)) : Type 0 where
   pub made : (field : Step × Tree Row) → IsIn field fields → IsField parts field
-  pub all : (l : List ℕ) → OneOf (λ part. Declares (part_of part) [] l) parts
+  pub all : (l : List ℕ) → OneOf (λ part. DeclaresAt (part_of part) [] l) parts
       → OneOf (λ field. step_of field.0 ≡ label l) fields

@@ -1,10 +1,10 @@
 -- The terms that the program writes, as terms of expressions.
-use Rattle.cue_print.specs.declared.term.Term as program
-use Rattle.cue_print.specs.declared.term.Term.TheVariants as terms
-use Rattle.cue_print.specs.Expressions.{Term, null, truths, truth, integers, number, at_most}
+use Rattle.cue_print.specs.declared.term.PrintedTerm as program
+use Rattle.cue_print.specs.declared.term.PrintedTerm.TheVariants as terms
+use Rattle.cue_print.specs.Expressions.{PrintedTerm, null, truths, truth, integers, number, at_most}
 use Rattle.cue_print.specs.Expressions.{at_least, between, texts, text, other_texts}
 
-abbrev pub term_of : program.Term → Term
+abbrev pub term_of : program.PrintedTerm → PrintedTerm
 term_of terms.Null = null
 term_of terms.Truths = truths
 term_of (terms.Truth b) = truth b

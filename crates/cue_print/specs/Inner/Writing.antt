@@ -4,22 +4,22 @@ use Rattle.std.specs.Prelude.{Some, is_some, nat_lt, ◌==◌, codes, if◌then�
 use Rattle.std.specs.List.{flat_map}
 use Rattle.cue_lattice.specs.Path.{label}
 use Rattle.cue_row.specs.declared.parts.RowParts.{RowParts as Row}
-use Rattle.cue_row.specs.Quoted.{quoted}
-use Rattle.cue_table.specs.Tree.{Tree, below, rest_of, row_of, step_into}
+use Rattle.cue_row.specs.Quoted.{quote_text}
+use Rattle.cue_table.specs.Tree.{Tree, below, rest_below, row_of, step_into}
 use Rattle.cue_print.specs.Expressions.{Value, top, no_parts, Fields}
-use Rattle.cue_print.specs.Spelled.{joined, mark_text, struct_text, list_text, value_text}
+use Rattle.cue_print.specs.Spelled.{join_texts, mark_text, struct_text, list_text, value_text}
 use Rattle.cue_print.specs.Spelled.{part_texts, field_texts, element_texts}
-use Rattle.cue_print.specs.Printed.{inside, outside, struct_if_any, has_field, elements, level_at}
+use Rattle.cue_print.specs.Printed.{fields_of_labels, fields_of_others, struct_if_any, has_field, elements, level_at}
 use Rattle.cue_print.specs.Printed.{value_of, fields_below, element_below, element_at, rest_value}
 
 -- a separator, unless nothing stands before it
-abbrev pub lead : List ℕ → Bool → List ℕ
-lead separator true = []
-lead separator false = separator
+abbrev pub separator_before : List ℕ → Bool → List ℕ
+separator_before separator true = []
+separator_before separator false = separator
 
 -- a text behind other parts
-abbrev pub conjoined : List ℕ → List ℕ
-conjoined part = codes " & " ++ part
+abbrev pub after_conjunction : List ℕ → List ℕ
+after_conjunction part = codes " & " ++ part
 
 -- ---- what is below a place
 -- the fields
@@ -28,42 +28,42 @@ fields_at tree = fields_below (below tree)
 
 -- the elements, by their numbers
 abbrev pub element_of : Tree Row → ℕ → Value
-element_of tree = element_at (rest_of tree) (element_below (below tree))
+element_of tree = element_at (rest_below tree) (element_below (below tree))
 
 -- what each further element is
 abbrev pub further_at : Tree Row → Option Value
-further_at tree = rest_value (rest_of tree)
+further_at tree = rest_value (rest_below tree)
 
 -- the field of a label, by what is found at it: an optional one of anything where there is no row
 abbrev pub found_text : List ℕ → Option (Tree Row) → List ℕ
-found_text l None = quoted l ++ codes "?: _"
+found_text l None = quote_text l ++ codes "?: _"
 found_text l (Some tree) =
-    quoted l ++ (mark_text (level_at (row_of tree)) ++ value_text (value_of tree))
+    quote_text l ++ (mark_text (level_at (row_of tree)) ++ value_text (value_of tree))
 
 abbrev pub declared_text : List ℕ → Tree Row → List ℕ
 declared_text l tree = found_text l (step_into tree (label l))
 
 -- ---- structs
 -- what stands before a field whose label may not stand
-abbrev pub opening : Bool → List ℕ
-opening true = codes " & {"
-opening false = codes ", "
+abbrev pub field_opening : Bool → List ℕ
+field_opening true = codes " & {"
+field_opening false = codes ", "
 
 -- what stands behind the last of them
-abbrev pub closing : Bool → List ℕ
-closing true = []
-closing false = codes "}"
+abbrev pub fields_closing : Bool → List ℕ
+fields_closing true = []
+fields_closing false = codes "}"
 
 -- the struct of the fields whose labels may not stand, behind others; nothing where there are none
 unfoldable pub beside_text : Option (List (List ℕ)) → Fields → List ℕ
 beside_text None fields = []
 beside_text (Some labels) fields =
-    flat_map conjoined (part_texts (struct_if_any (outside labels fields) no_parts))
+    flat_map after_conjunction (part_texts (struct_if_any (fields_of_others labels fields) no_parts))
 
 -- a closed struct of the labels that may stand, and the struct of the other fields beside it
 abbrev pub closed_text : List (List ℕ) → Option (List (List ℕ)) → Fields → List ℕ
 closed_text listed labels fields =
-    codes "close({" ++ (joined (codes ", ") (field_texts (inside listed fields))
+    codes "close({" ++ (join_texts (codes ", ") (field_texts (fields_of_labels listed fields))
     ++ (codes "})" ++ beside_text labels fields))
 
 -- the struct part of a place
@@ -85,15 +85,15 @@ is_exact least None further = false
 is_exact least (Some most) further = least == most && not (is_some further)
 
 -- what each further element is, where something is said of it
-abbrev pub told_text : Option Value → List ℕ
-told_text None = []
-told_text (Some value) = value_text value
+abbrev pub rest_value_text : Option Value → List ℕ
+rest_value_text None = []
+rest_value_text (Some value) = value_text value
 
 -- what ends the elements of a list, by their number and whether they alone tell it
 abbrev pub ending_text : ℕ → Bool → Option Value → List ℕ
 ending_text count true further = []
 ending_text count false further =
-    lead (codes ", ") (count == 0) ++ (codes "..." ++ told_text further)
+    separator_before (codes ", ") (count == 0) ++ (codes "..." ++ rest_value_text further)
 
 -- the list of the greatest length, behind others; nothing where the elements alone tell it, or
 -- there is none
@@ -101,12 +101,12 @@ unfoldable pub longest_text : Option ℕ → Bool → List ℕ
 longest_text None is_exact = []
 longest_text (Some most) true = []
 longest_text (Some most) false =
-    conjoined (list_text (element_texts (elements most (λ n. top))))
+    after_conjunction (list_text (element_texts (elements most (λ n. top))))
 
 -- the list part of a place: its elements and what ends them, and the list of the greatest length
 abbrev pub written_list : ℕ → Option ℕ → (ℕ → Value) → Option Value → List ℕ
 written_list least most value_at further =
-    codes "[" ++ (joined (codes ", ") (element_texts (elements least value_at))
+    codes "[" ++ (join_texts (codes ", ") (element_texts (elements least value_at))
     ++ (ending_text least (is_exact least most further) further
     ++ (codes "]" ++ longest_text most (is_exact least most further))))
 

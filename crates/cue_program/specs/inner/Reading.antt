@@ -2,8 +2,8 @@
 use Rattle.std.specs.Prelude.{◌≡◌, ◌⊎◌, ◌<◌, ◌≤◌, ◌+◌, ◌-◌, ◌*◌, ℕ, List, ◌++◌, Option, IfSome}
 use Rattle.std.specs.Prelude.{length}
 use Rattle.cue_program.specs.Files.{AreAll}
-use Rattle.cue_program.specs.Stops.{piece_size, read_limit, IsDevice, IsMemory, IsTurnsUsed}
-use Rattle.cue_program.specs.declared.stop.Stop.{Stop}
+use Rattle.cue_program.specs.Stops.{piece_size, read_limit, IsDeviceStop, IsMemoryStop, IsTurnsUsedStop}
+use Rattle.cue_program.specs.declared.stop.RunError.{RunError}
 
 -- what is kept is kept of all bytes that the device had, where they are known, and of no more than
 -- so many reads give
@@ -18,9 +18,9 @@ IsRestRead IsKept front known =
     × (length rest ≤ (read_limit - 1) * piece_size)
 
 -- why the rest of an input could not be read of which one read was made
-abbrev pub IsRestFault : Option (List ℕ) → ℕ → ℕ → ℕ → ℕ → Stop → Type 0
+abbrev pub IsRestFault : Option (List ℕ) → ℕ → ℕ → ℕ → ℕ → RunError → Type 0
 IsRestFault known calls failures calls' failures' stop =
-    (IsDevice stop × (failures < failures'))
-    ⊎ (IsTurnsUsed stop × (calls' + 1 ≡ calls + read_limit)
+    (IsDeviceStop stop × (failures < failures'))
+    ⊎ (IsTurnsUsedStop stop × (calls' + 1 ≡ calls + read_limit)
     × IfSome known (λ rest. read_limit ≤ length rest + 1))
-    ⊎ IsMemory stop
+    ⊎ IsMemoryStop stop

@@ -5,14 +5,14 @@ use Rattle.std.specs.List.{AllByRecursion, concat}
 use Rattle.cue_lattice.specs.World.{text}
 use Rattle.cue_replica.specs.Accepted.{text_limit}
 use Rattle.cue_program.specs.Parts.{lines_of, IsPart}
-use Rattle.cue_program.specs.Inputs.{IsRead}
-use Rattle.cue_program.specs.Stops.{IsMemory}
+use Rattle.cue_program.specs.Inputs.{IsInputRead}
+use Rattle.cue_program.specs.Stops.{IsMemoryStop}
 use Rattle.cue_program.specs.inner.Gathered.{IsGathered}
-use Rattle.cue_program.specs.inner.Texts.{AreFirstParts, Counts, IsTextRefused}
-use Rattle.cue_program.specs.declared.kept.Input.{Input}
-use Rattle.cue_program.specs.declared.stop.Stop.{Stop}
-use Rattle.cue_program.specs.declared.taking.Taken.{Taken}
-use Rattle.cue_program.specs.declared.taking.Texts.{Texts}
+use Rattle.cue_program.specs.inner.Texts.{AreFirstParts, IsCountOf, IsTextRefused}
+use Rattle.cue_program.specs.declared.input_reader.Input.{Input}
+use Rattle.cue_program.specs.declared.stop.RunError.{RunError}
+use Rattle.cue_program.specs.declared.stdin_splitter.StdinSplitter.{StdinSplitter}
+use Rattle.cue_program.specs.declared.stdin_splitter.Texts.{Texts}
 
 -- no line break is among the bytes
 abbrev pub IsUnbroken : List ℕ → Type 0
@@ -30,31 +30,31 @@ pub record AreWholeLines (bytes : List ℕ) : Type 0 where
   pub behind : (more : List ℕ) → lines_of (bytes ++ more) ≡ lines ++ lines_of more
 
 -- The finished parts of the bytes were taken, which are so many; what follows them is kept.
-pub record HasRead (taken : Taken) (bytes : List ℕ) : Type 0 where
+pub record HasRead (taken : StdinSplitter) (bytes : List ℕ) : Type 0 where
   pub done : List (List ℕ)
   pub texts : IsGathered taken.gathered (map text done)
-  pub counted : Counts taken.number done
+  pub counted : IsCountOf taken.number done
   pub rest : (more : List ℕ)
       → AreFirstParts (bytes ++ more) done
       (Some (taken.part.items ++ (taken.line.items ++ more)))
   pub whole : AreWholeLines taken.part.items
 
 -- The same, where no more is kept of the next part than a text and a separating line may have.
-pub record HasTaken (taken : Taken) (bytes : List ℕ) : Type 0 where
+pub record HasTaken (taken : StdinSplitter) (bytes : List ℕ) : Type 0 where
   pub read : HasRead taken bytes
   pub unbroken : IsUnbroken taken.line.items
   pub short : length taken.part.items + length taken.line.items ≤ text_limit + 4
 
 -- whatever follows these bytes, the first part that is refused ends the run
-abbrev pub IsRefusedWithin : List ℕ → Stop → Type 0
+abbrev pub IsRefusedWithin : List ℕ → RunError → Type 0
 IsRefusedWithin bytes stop = (more : List ℕ) → IsTextRefused (bytes ++ more) stop
 
 -- the same, or memory ran out
-abbrev pub IsStopWithin : List ℕ → Stop → Type 0
-IsStopWithin bytes stop = IsMemory stop ⊎ IsRefusedWithin bytes stop
+abbrev pub IsStopWithin : List ℕ → RunError → Type 0
+IsStopWithin bytes stop = IsMemoryStop stop ⊎ IsRefusedWithin bytes stop
 
 -- the texts in these bytes were taken, or one of them was refused
-abbrev pub IsOpenOr : Option Stop → Taken → List ℕ → Type 0
+abbrev pub IsOpenOr : Option RunError → StdinSplitter → List ℕ → Type 0
 IsOpenOr None taken bytes = HasTaken taken bytes
 IsOpenOr (Some stop) taken bytes = IsRefusedWithin bytes stop
 
@@ -63,4 +63,4 @@ AreTaken texts bytes = IsOpenOr texts.refused texts.taken bytes
 
 -- a stream with these bytes was read, as many as a memory can hold: its texts were taken
 abbrev pub IsStreamRead : Input Texts → List ℕ → Type 0
-IsStreamRead input bytes = IsRead AreTaken input bytes × (length bytes < 2 ^ 64)
+IsStreamRead input bytes = IsInputRead AreTaken input bytes × (length bytes < 2 ^ 64)

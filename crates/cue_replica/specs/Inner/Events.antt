@@ -4,37 +4,37 @@ use Rattle.std.specs.Prelude.{slice_get, slice_set, Vec, vec_len, vec_capacity}
 use Rattle.std.specs.Global.{Global}
 use Rattle.cue_lattice.specs.Refusal.{memory}
 use Rattle.cue_lattice.specs.World as world
-use Rattle.cue_lattice.specs.World.{Sets, AllAlong, IsUnified, IsOutcome}
+use Rattle.cue_lattice.specs.World.{Sets, AllAlong, IsUnified, IsEventOutcome}
 use Rattle.cue_replica.specs.declared.world.Event.{Event}
 use Rattle.cue_replica.specs.declared.world.Outcome.{Outcome}
 use Rattle.cue_replica.specs.declared.world.Outcome.TheVariants.{Accepted, Sent, Refused, NoSuch}
 use Rattle.cue_replica.specs.Language.{Table, language}
-use Rattle.cue_replica.specs.World.{event_of, outcome_of, IsSentOf, Takes}
+use Rattle.cue_replica.specs.World.{event_of, outcome_of, IsSentOf, TakesState}
 
 -- each site and each message is what its set of pieces makes it
-pub record Agrees (replicas : List Table) (messages : List (Vec ℕ Global))
+pub record TablesAgree (replicas : List Table) (messages : List (Vec ℕ Global))
     (sets : Sets) : Type 0 where
   pub sites : AllAlong (IsUnified language) replicas sets.sites
   pub sent : AllAlong IsSentOf messages sets.messages
 
 -- What may happen at a site: there is none of this number, and nothing changes; or its table, and
 -- no other, takes a step.
-abbrev pub HappensAt : (Table → Table → Outcome → Type 0) → List Table → ℕ → List Table
+abbrev pub HappensAtSite : (Table → Table → Outcome → Type 0) → List Table → ℕ → List Table
     → Outcome → Type 0
-HappensAt Step old site new outcome =
+HappensAtSite Step old site new outcome =
     ((length old ≤ site) × (new ≡ old) × (outcome ≡ NoSuch))
     ⊎ ((before after : Table) × (slice_get old site ≡ Some before)
     × (new ≡ slice_set old site after) × Step before after outcome)
 
 -- a state is sent: it becomes the next message
-abbrev pub Sends : List Table → ℕ → List (Vec ℕ Global) → List (Vec ℕ Global) → Outcome → Type 0
-Sends replicas site old new (Sent number) =
+abbrev pub SendsState : List Table → ℕ → List (Vec ℕ Global) → List (Vec ℕ Global) → Outcome → Type 0
+SendsState replicas site old new (Sent number) =
     (table : Table) × (bytes : Vec ℕ Global) × (slice_get replicas site ≡ Some table)
     × (bytes.items ≡ language.written table)
     × (number ≡ length old) × (new ≡ old ++ bytes ∷ [])
-Sends replicas site old new (Refused why) = (site < length replicas) × (why ≡ memory) × (new ≡ old)
-Sends replicas site old new NoSuch = (length replicas ≤ site) × (new ≡ old)
-Sends replicas site old new Accepted = ⊥
+SendsState replicas site old new (Refused why) = (site < length replicas) × (why ≡ memory) × (new ≡ old)
+SendsState replicas site old new NoSuch = (length replicas ≤ site) × (new ≡ old)
+SendsState replicas site old new Accepted = ⊥
 
 -- a memory can hold the bytes
 abbrev pub IsHeld : List ℕ → Type 0
@@ -42,11 +42,11 @@ IsHeld bytes = length bytes < 2 ^ 64
 
 -- a message is handed to a site: there is none of this number, and nothing changes; or its bytes
 -- are handed in
-abbrev pub Delivers : List (Vec ℕ Global) → ℕ → List Table → ℕ → List Table → Outcome → Type 0
-Delivers messages message old site new outcome =
+abbrev pub DeliversState : List (Vec ℕ Global) → ℕ → List Table → ℕ → List Table → Outcome → Type 0
+DeliversState messages message old site new outcome =
     ((length messages ≤ message) × (new ≡ old) × (outcome ≡ NoSuch))
     ⊎ ((bytes : Vec ℕ Global) × (slice_get messages message ≡ Some bytes) × IsHeld bytes.items
-    × HappensAt (Takes bytes.items) old site new outcome)
+    × HappensAtSite (TakesState bytes.items) old site new outcome)
 
 -- at most one message more, and no less room
 pub record KeepsRoom (old new : Vec (Vec ℕ Global) Global) : Type 0 where
@@ -55,8 +55,8 @@ pub record KeepsRoom (old new : Vec (Vec ℕ Global) Global) : Type 0 where
 
 -- What an event leaves, for all sets that agree with what was before: an outcome that the
 -- definition allows, and what agrees with the sets after it.
-pub record Happens (replicas : List Table) (messages : List (Vec ℕ Global)) (event : Event)
+pub record EventHappens (replicas : List Table) (messages : List (Vec ℕ Global)) (event : Event)
     (replicas' : List Table) (messages' : List (Vec ℕ Global)) (outcome : Outcome)
     (sets : Sets) : Type 0 where
-  pub allowed : IsOutcome language sets (event_of event) (outcome_of outcome)
-  pub agrees : Agrees replicas' messages' (world.after sets (event_of event) (outcome_of outcome))
+  pub allowed : IsEventOutcome language sets (event_of event) (outcome_of outcome)
+  pub agrees : TablesAgree replicas' messages' (world.sets_after sets (event_of event) (outcome_of outcome))

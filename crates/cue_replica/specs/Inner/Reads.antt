@@ -6,6 +6,6 @@ use Rattle.cue_replica.specs.Language.{Table}
 use Rattle.cue_replica.specs.States.{IsTableOf}
 
 -- the bytes are read as the table, or are refused as this kind
-abbrev pub Reads : List ℕ → Result Table Kind → Type 0
-Reads bytes (Ok table) = IsTableOf bytes table
-Reads bytes (Err kind) = IsUndecoded bytes kind
+abbrev pub ReadsTable : List ℕ → Result Table Kind → Type 0
+ReadsTable bytes (Ok table) = IsTableOf bytes table
+ReadsTable bytes (Err kind) = IsUndecoded bytes kind

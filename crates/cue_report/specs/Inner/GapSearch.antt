@@ -14,20 +14,20 @@ use Rattle.cue_table.specs.Refuses.{RowRefuses, TableRefuses}
 use Rattle.cue_table.specs.Spans.{Span, field, elements}
 use Rattle.cue_table.specs.Tree.{Tree, Children, Rest, no_rest, onward, row_of, row_at, find}
 use Rattle.cue_report.specs.Answers.{IsDemanded, HasNoValue, IsNotAllowed}
-use Rattle.cue_report.specs.Gaps.{IsMissing, IsFree, HasNoChoice}
+use Rattle.cue_report.specs.Gaps.{IsMissing, IsFreeRow, HasNoChoice}
 use Rattle.cue_report.specs.Listing.{IsRising, Lists}
 use Rattle.cue_report.specs.Inner.Search.{is_demanded, is_refused}
-use Rattle.cue_report.specs.Telling.{Tally, Grows}
-use Rattle.cue_report.specs.Inner.Telling.{Starts}
+use Rattle.cue_report.specs.Telling.{Tally, WritesPieces}
+use Rattle.cue_report.specs.Inner.Telling.{WritesPiecesPrefix}
 use Rattle.cue_report.specs.declared.gap.Gap.{Gap}
 
 -- what is refused at the place of a row, whatever its path
 abbrev pub AtPlace : Option Row → Refusals
-AtPlace row path = RowRefuses rows.RowRefuses row
+AtPlace row path = RowRefuses rows.RowRefusesQuestion row
 
 -- no single value is told
 abbrev pub IsOpenAt : Option Row → Type 0
-IsOpenAt row = IsFree (AtPlace row) [] ⊎ HasNoChoice (AtPlace row) []
+IsOpenAt row = IsFreeRow (AtPlace row) [] ⊎ HasNoChoice (AtPlace row) []
 
 -- a gap, where the label is allowed, that is missing or not
 pub record IsGapAt (row : Option Row) (missing : Bool) : Type 0 where
@@ -42,8 +42,8 @@ IsBarred not_allowed refuses (step ∷ path) = IsNotAllowed refuses (step ∷ pa
 
 -- a gap in a tree, of which the place above refuses the label or not
 pub record IsGapIn (not_allowed : Bool) (tree : Tree Row) (gap : Gap) : Type 0 where
-  pub demanded : IsDemanded (TableRefuses rows.RowRefuses tree) gap.path
-  pub allowed : ¬ IsBarred not_allowed (TableRefuses rows.RowRefuses tree) gap.path
+  pub demanded : IsDemanded (TableRefuses rows.RowRefusesQuestion tree) gap.path
+  pub allowed : ¬ IsBarred not_allowed (TableRefuses rows.RowRefusesQuestion tree) gap.path
   pub lacking : IsGapAt (row_at tree gap.path) gap.missing
 
 -- a gap at a place itself
@@ -76,19 +76,19 @@ IsGapOnward least no_rest gap = ⊥
 IsGapOnward least (onward n tree) gap = IsGapAmong n least tree gap
 
 -- the gap of a path, seen from a place above it
-abbrev pub above : Path → Gap → Gap
-above path gap = record gap { path = path ++ gap.path }
+abbrev pub gap_above : Path → Gap → Gap
+gap_above path gap = record gap { path = path ++ gap.path }
 
 -- what is told of these gaps, seen from there
-abbrev pub told_above : {X : Type 0} → (Gap → List X) → Path → List Gap → List X
-told_above piece path found = flat_map piece (map (above path) found)
+abbrev pub gaps_above : {X : Type 0} → (Gap → List X) → Path → List Gap → List X
+gaps_above piece path found = flat_map piece (map (gap_above path) found)
 
 -- A search at a path tells of exactly those gaps of which P holds, in the order of their paths.
-pub record Adds {X : Type 0} (piece : Gap → List X) (P : Gap → Type 0) (path : Path)
+pub record WritesGapsWhere {X : Type 0} (piece : Gap → List X) (P : Gap → Type 0) (path : Path)
     (old new : Tally X) : Type 0 where
   pub found : List Gap
   pub lists : Lists (λ gap. gap.path) P found
-  pub told : Grows old new (told_above piece path found)
+  pub told : WritesPieces old new (gaps_above piece path found)
 
 -- These are those of which P holds up to some place, in the order of their paths: each other one is
 -- behind them.
@@ -100,11 +100,11 @@ pub record IsFront (P : Gap → Type 0) (found : List Gap) : Type 0 where
 
 -- A search at a path tells of some in front of those of which P holds, of the last one maybe not
 -- all.
-pub record Fronts {X : Type 0} (piece : Gap → List X) (P : Gap → Type 0) (path : Path)
+pub record WritesGapsPrefixWhere {X : Type 0} (piece : Gap → List X) (P : Gap → Type 0) (path : Path)
     (old new : Tally X) : Type 0 where
   pub found : List Gap
   pub front : IsFront P found
-  pub told : Starts old new (told_above piece path found)
+  pub told : WritesPiecesPrefix old new (gaps_above piece path found)
 
 -- a place where anything may stand
 abbrev pub free_at : Path → Gap

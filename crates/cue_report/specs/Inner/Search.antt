@@ -62,12 +62,12 @@ is_refused (Some row) (label text) = not (allows_label row.labels text)
 is_refused (Some row) (index n) = false
 
 -- the conflict of a path, seen from a place above it
-abbrev pub under : Path → Conflict → Conflict
-under path conflict = record conflict { path = path ++ conflict.path }
+abbrev pub conflict_under : Path → Conflict → Conflict
+conflict_under path conflict = record conflict { path = path ++ conflict.path }
 
 -- what is told of these conflicts, seen from there
-abbrev pub told_under : {X : Type 0} → (Conflict → List X) → Path → List Conflict → List X
-told_under piece path found = flat_map piece (map (under path) found)
+abbrev pub conflicts_under : {X : Type 0} → (Conflict → List X) → Path → List Conflict → List X
+conflicts_under piece path found = flat_map piece (map (conflict_under path) found)
 
 -- the list, or nothing
 abbrev pub only_if : {X : Type 0} → Bool → List X → List X
@@ -94,7 +94,7 @@ rest_from (onward n tree) least = min n least
 abbrev pub each_index : ℕ → ℕ → List Conflict → List Conflict
 each_index first zero found = []
 each_index first (suc count) found =
-    each_index first count found ++ map (under (index (first + count) ∷ [])) found
+    each_index first count found ++ map (conflict_under (index (first + count) ∷ [])) found
 
 -- the conflicts at a place and below, of which the place above refuses the label or not
 abbrev mutual
@@ -107,7 +107,7 @@ abbrev mutual
   conflicts_below row none = []
   conflicts_below row (child step tree children) =
       only_if (is_demanded row step (row_of tree))
-      (map (under (step ∷ [])) (conflicts_in (is_refused row step) tree))
+      (map (conflict_under (step ∷ [])) (conflicts_in (is_refused row step) tree))
       ++ conflicts_below row children
 
   pub conflicts_onward : Option Row → Rest Row → List Conflict

@@ -2,7 +2,7 @@
 use Rattle.std.specs.Prelude.{ℕ, List, [], ◌∷◌, ◌++◌, map}
 use Rattle.cue_lattice.specs.Path as paths
 use Rattle.cue_lattice.specs.Path.{Path}
-use Rattle.cue_row.specs.PathText.{dot, step_text}
+use Rattle.cue_row.specs.PathText.{path_dot, step_text}
 use Rattle.cue_table.specs.StepsOfCode.{step_at}
 use Rattle.cue_table.specs.declared.step_ref.StepRef.{StepRef}
 
@@ -12,4 +12,4 @@ shown_steps steps = map step_at steps
 
 -- the step and a dot
 abbrev pub dotted_behind : paths.Step → List ℕ
-dotted_behind step = step_text step ++ dot ∷ []
+dotted_behind step = step_text step ++ path_dot ∷ []

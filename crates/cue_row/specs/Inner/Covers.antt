@@ -4,11 +4,11 @@ use Rattle.cue_row.specs.declared.level.Level.TheVariants.{Optional}
 use Rattle.cue_row.specs.declared.parts.RowParts.{RowParts as Row}
 use Rattle.cue_row.specs.declared.question.Question.{Question}
 use Rattle.cue_row.specs.Made.{at_level}
-use Rattle.cue_row.specs.Row.{Refuses}
+use Rattle.cue_row.specs.Row.{RefusesAsked}
 
 -- the first row refuses what the second refuses at the lowest level
-abbrev pub Covers : Row → Row → Type 0
-Covers a b = (question : Question) → Refuses (at_level Optional b) question → Refuses a question
+abbrev pub CoversRow : Row → Row → Type 0
+CoversRow a b = (question : Question) → RefusesAsked (at_level Optional b) question → RefusesAsked a question
 
 -- the row refuses no label and no length
 pub record IsOpenBelow (row : Row) : Type 0 where

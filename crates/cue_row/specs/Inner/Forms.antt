@@ -5,7 +5,7 @@ use Rattle.cue_row.specs.Lengths.{RefusesLength}
 use Rattle.cue_row.specs.declared.level.Level.TheVariants.{Optional}
 use Rattle.cue_row.specs.declared.kind.RowKind.{RowKind}
 use Rattle.cue_row.specs.declared.parts.RowParts.{RowParts as Row}
-use Rattle.cue_row.specs.Kinds.{IsKind}
+use Rattle.cue_row.specs.Kinds.{IsRowKind}
 use Rattle.cue_row.specs.ValidRow.{UsualFits, LabelsFit, LengthsFit, AreLengths, HasWords}
 
 -- it refuses no level, struct, list or length
@@ -27,7 +27,7 @@ pub record IsFormWithin (a b : Row) : Type 0 where
 -- the row is of a kind, fits it, and keeps the limits
 pub record IsFitRow (row : Row) : Type 0 where
   pub kind : RowKind
-  pub is_kind : IsKind row kind
+  pub is_kind : IsRowKind row kind
   pub usual : UsualFits row kind
   pub labels : LabelsFit row kind
   pub row_lengths : LengthsFit row kind

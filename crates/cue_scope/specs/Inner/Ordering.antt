@@ -3,7 +3,7 @@ use Rattle.std.specs.Prelude.{ℕ, ◌≡◌, ◌<◌, ◌≤◌, ◌+◌, ◌-�
 use Rattle.std.specs.Prelude.{eqb, nat_lt, List, [], ◌∷◌, length, slice_index, slice_index_or}
 use Rattle.std.specs.Prelude.{Option, None, Some, is_some}
 use Rattle.std.specs.List.{count_by}
-use Rattle.cue_scope.specs.Graph.{IsIn, targets, PointsTo, IsAcyclic, IsOrder, IsFirstCycle}
+use Rattle.cue_scope.specs.Graph.{IsNodeIn, targets, PointsTo, IsAcyclic, IsOrder, IsFirstCycle}
 use Rattle.cue_scope.specs.declared.graph.Order.{Order}
 use Rattle.cue_scope.specs.declared.graph.Order.TheVariants.{Ordered, Cycle}
 
@@ -22,8 +22,8 @@ is_ready g ranks i =
     nat_lt i (length ranks) && eqb (slice_index ranks i) 0
     && not (is_some (first_open ranks (targets g i)))
 
-abbrev pub IsStuck : List (List ℕ) → List ℕ → Type 0
-IsStuck g ranks = (i : ℕ) → is_ready g ranks i ≡ false
+abbrev pub HasNoReadyNode : List (List ℕ) → List ℕ → Type 0
+HasNoReadyNode g ranks = (i : ℕ) → is_ready g ranks i ≡ false
 
 -- Each node of the order has its place there, counted from 1, as its rank, and those that it points
 -- to have smaller ones.
@@ -40,11 +40,11 @@ pub record IsPlaced (g : List (List ℕ)) (order ranks : List ℕ) : Type 0 wher
 pub record Spread (before after : List Bool) (waiting now nodes : List ℕ) : Type 0 where
   pub lengths : length after ≡ length before
   pub kept : (i : ℕ) → slice_index_or before i false ≡ true → slice_index_or after i false ≡ true
-  pub all : (i : ℕ) → IsIn i nodes → slice_index_or after i false ≡ true
+  pub all : (i : ℕ) → IsNodeIn i nodes → slice_index_or after i false ≡ true
   pub only : (i : ℕ) → slice_index_or after i false ≡ true
-      → (slice_index_or before i false ≡ true) ⊎ IsIn i nodes
+      → (slice_index_or before i false ≡ true) ⊎ IsNodeIn i nodes
   pub new : (i : ℕ) → slice_index_or after i false ≡ true
-      → (slice_index_or before i false ≡ true) ⊎ IsIn i now
-  pub stays : (i : ℕ) → IsIn i waiting → IsIn i now
-  pub from : (i : ℕ) → IsIn i now → IsIn i waiting ⊎ IsIn i nodes
+      → (slice_index_or before i false ≡ true) ⊎ IsNodeIn i now
+  pub stays : (i : ℕ) → IsNodeIn i waiting → IsNodeIn i now
+  pub from : (i : ℕ) → IsNodeIn i now → IsNodeIn i waiting ⊎ IsNodeIn i nodes
   pub left : count_by not after + length now ≡ count_by not before + length waiting

@@ -1,9 +1,9 @@
 -- What stands at a path, for those who read and for those who write.
 use Rattle.std.specs.Prelude.{◌≡◌, ℕ, List, codes}
-use Rattle.cue_answer.specs.declared.question.Question.TheVariants as questions
+use Rattle.cue_answer.specs.declared.question.SiteQuestion.TheVariants as questions
 use Rattle.cue_service.specs.declared.route.Route.{Route}
 use Rattle.cue_service.specs.declared.route.Route.TheVariants.{Ask, Pieces, Take, Health, Metrics, Page, OtherMethod, Unknown}
-use Rattle.cue_service.specs.declared.route.Hand.TheVariants as hands
+use Rattle.cue_service.specs.declared.route.PieceKind.TheVariants as hands
 use Rattle.cue_service.specs.Requests.{read_paths, written_paths, IsNoneOf}
 
 abbrev pub IsReadAt : Route → List ℕ → Type 0

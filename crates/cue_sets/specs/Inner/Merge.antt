@@ -2,8 +2,8 @@
 use Rattle.std.specs.Prelude.{ℕ, Bool, true, false, List, [], ◌∷◌}
 use Rattle.std.specs.declared.cmp.Ordering.{Ordering}
 use Rattle.std.specs.declared.cmp.Ordering.TheVariants.{Less, Equal, Greater}
-use Rattle.cue_sets.specs.Inner.Combination.{keeps}
-use Rattle.cue_sets.specs.Texts.{text_cmp, flipped}
+use Rattle.cue_sets.specs.Inner.Combination.{combination_keeps}
+use Rattle.cue_sets.specs.Texts.{text_cmp, is_member_if}
 use Rattle.cue_sets.specs.declared.combination.Combination.{Combination}
 
 abbrev pub prepended_if : Bool → List ℕ → List (List ℕ) → List (List ℕ)
@@ -31,12 +31,12 @@ merged_from kept x more (y ∷ ys) =
 
 -- the texts of both lists in their order, of which those are kept that `kept` says, by whether the
 -- left list has the text and whether the right one has
-abbrev pub merged : (Bool → Bool → Bool) → List (List ℕ) → List (List ℕ) → List (List ℕ)
-merged kept [] = right_merged kept
-merged kept (x ∷ xs) = merged_from kept x (merged kept xs)
+abbrev pub merge_texts : (Bool → Bool → Bool) → List (List ℕ) → List (List ℕ) → List (List ℕ)
+merge_texts kept [] = right_merged kept
+merge_texts kept (x ∷ xs) = merged_from kept x (merge_texts kept xs)
 
 -- Whether a combination of two sets lists a text, by whether each of the two lists it. `left` and
 -- `right` say which of the two have all texts but the listed ones.
-abbrev pub lists : Combination → Bool → Bool → Bool → Bool → Bool
-lists how left right in_left in_right =
-    flipped (keeps how left right) (keeps how (flipped left in_left) (flipped right in_right))
+abbrev pub combination_lists : Combination → Bool → Bool → Bool → Bool → Bool
+combination_lists how left right in_left in_right =
+    is_member_if (combination_keeps how left right) (combination_keeps how (is_member_if left in_left) (is_member_if right in_right))

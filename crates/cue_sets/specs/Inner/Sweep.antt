@@ -8,12 +8,12 @@ EndsFrom from [] = Unit {0}
 EndsFrom from (piece ∷ pieces) = from ≤ℤ piece.1
 
 -- where the piece begins that is being made, after the numbers from `from` on were kept or left out
-abbrev pub opened : Option ℤ → ℤ → Bool → Option ℤ
-opened begun from false = None
-opened begun from true = Some (unwrap_or begun from)
+abbrev pub open_piece : Option ℤ → ℤ → Bool → Option ℤ
+open_piece begun from false = None
+open_piece begun from true = Some (unwrap_or begun from)
 
 -- the piece that ends right before `from`, if the numbers from there on are left out
-abbrev pub closed : Option ℤ → ℤ → Bool → List (ℤ × ℤ)
-closed begun from true = []
-closed None from false = []
-closed (Some first) from false = (first, from -ℤ pos 1) ∷ []
+abbrev pub close_piece : Option ℤ → ℤ → Bool → List (ℤ × ℤ)
+close_piece begun from true = []
+close_piece None from false = []
+close_piece (Some first) from false = (first, from -ℤ pos 1) ∷ []

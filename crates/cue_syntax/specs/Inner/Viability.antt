@@ -6,11 +6,11 @@ use Rattle.cue_lex.specs.declared.token.TokenKind.{TokenKind}
 use Rattle.cue_lex.specs.declared.token.TokenKind.TheVariants as kinds
 use Rattle.cue_lex.specs.declared.punctuation.Punctuation.TheVariants as points
 use Rattle.cue_syntax.specs.Syntax.{FileTree}
-use Rattle.cue_syntax.specs.Grammar.{Limit, IsFile}
+use Rattle.cue_syntax.specs.Grammar.{Limit, IsFileTree}
 
 -- no tree of the grammar within the limit is spelled by these tokens
 abbrev pub HasNoTree : Limit → List Token → Type 0
-HasNoTree limit tokens = (tree : FileTree) → ¬ IsFile limit tokens tree
+HasNoTree limit tokens = (tree : FileTree) → ¬ IsFileTree limit tokens tree
 
 abbrev pub IsName : TokenKind → Type 0
 IsName (kinds.Name t) = ⊤

@@ -6,12 +6,12 @@ use Rattle.std.specs.Vec.Iter.{into_iter_items}
 use Rattle.cue_lattice.specs.Path.{index, label}
 use Rattle.cue_row.specs.Steps.{step_of}
 use Rattle.cue_table.specs.Depth.{tree_depth, children_depth}
-use Rattle.cue_table.specs.Form.{IsKept, IsRow, IsTree, AreBranches, AreWithin}
-use Rattle.cue_table.specs.Inner.Form.{Rise}
+use Rattle.cue_table.specs.Form.{IsRowKept, IsTableRow, IsTree, AreBranches, AreWithinDepth}
+use Rattle.cue_table.specs.Inner.Form.{StepsRise}
 use Rattle.cue_table.specs.Meet.{IsMet, IsUnion}
 use Rattle.cue_table.specs.Inner.Meet.{IsMerge}
 use Rattle.cue_table.specs.Refuses.{RowRefuses}
-use Rattle.cue_table.specs.Tree.{find, node, no_rest, rest_of, rest_tree}
+use Rattle.cue_table.specs.Tree.{find, node, no_rest, rest_below, rest_at}
 use Rattle.cue_table.specs.Inner.Changes.{IsChange, IsFound, or_old}
 use Rattle.cue_table.specs.Inner.Place.{IsPlace, IsGap}
 use Rattle.cue_table.specs.Inner.Parts.{or_row}
@@ -32,27 +32,27 @@ use Rattle.cue_table.proofs.+meet.Goals as goal
 use Rattle.cue_table.proofs.+meet.Goals.{meet::meet_own-in-Some+in-Some-1, meet::meet_own-in-Some+in-None-1, meet::meet_own-in_default}
 
 -- ---- the elements of two places
-pub lists::elements_met-found_met-requires : goal.lists::elements_met-found_met-requires
-lists::elements_met-found_met-requires g t c κs within =
-    let P = IsKept g.R.Narrow.refuses g.R.Narrow.is_value in
+pub lists::meet_elements-meet_found-requires : goal.lists::meet_elements-meet_found-requires
+lists::meet_elements-meet_found-requires g t c κs within =
+    let P = IsRowKept g.R.Narrow.refuses g.R.Narrow.is_value in
     let deep = rest_depth c.args.right.now _ c.rest-2.ensures in
     (omega (arith, c.decreases, deep), (within.0, (within.1, (rest_branch P c.args.left.now _ c.requires.left c.rest.ensures, rest_branch P c.args.right.now _ c.requires.right c.rest-2.ensures))))
 
-pub lists::elements_met-new-on_left-requires : goal.lists::elements_met-new-on_left-requires
-lists::elements_met-new-on_left-requires g t c = c.requires.left
+pub lists::meet_elements-new-on_left-requires : goal.lists::meet_elements-new-on_left-requires
+lists::meet_elements-new-on_left-requires g t c = c.requires.left
 
-pub lists::elements_met-loop-at-init : goal.lists::elements_met-loop-at-init
-lists::elements_met-loop-at-init g t c = record {
+pub lists::meet_elements-loop-at-init : goal.lists::meet_elements-loop-at-init
+lists::meet_elements-loop-at-init g t c = record {
   sweeps = sweeps_start g.R.Narrow.refuses g.R.Narrow.is_value c.args.left.now c.args.right.now c.max-fixed.result c.new-runs.result.items c.new-runs.ensures.items;
   further = refl;
   on_left = λ l. c.new-on_left.ensures;
   on_right = λ l. c.new-on_right.ensures;
 }
 
-pub lists::elements_met-element_met-requires : goal.lists::elements_met-element_met-requires
-lists::elements_met-element_met-requires g t c κs within =
+pub lists::meet_elements-meet_element-requires : goal.lists::meet_elements-meet_element-requires
+lists::meet_elements-meet_element-requires g t c κs within =
     let r = g.R.Narrow.refuses in
-    let P = IsKept r g.R.Narrow.is_value in
+    let P = IsRowKept r g.R.Narrow.is_value in
     let same = sym c.loop-at.invariant.further in
     let left = c.loop-at.invariant.on_left c.loop-at-test.true in
     let right = c.loop-at.invariant.on_right c.loop-at-test.true in
@@ -72,7 +72,7 @@ lists::elements_met-element_met-requires g t c κs within =
                   at_own c.args.right.now c.loop-at.at _ _ right first,
                   (
                     subst (IsBranch P) same c.in_ok-further.ensures.form,
-                    met_as r _ _ _ _ c.loop-at.further-1 (c.rest.ensures ∙ ap (λ n. rest_tree (rest_of n)) (sym left.place)) (c.rest-2.ensures ∙ ap (λ n. rest_tree (rest_of n)) (sym right.place)) (subst (AreMetRests r _ _) same c.in_ok-further.ensures.refused),
+                    met_as r _ _ _ _ c.loop-at.further-1 (c.rest.ensures ∙ ap (λ n. rest_at (rest_below n)) (sym left.place)) (c.rest-2.ensures ∙ ap (λ n. rest_at (rest_below n)) (sym right.place)) (subst (AreMetRests r _ _) same c.in_ok-further.ensures.refused),
                   ),
                 ),
               ),
@@ -82,23 +82,23 @@ lists::elements_met-element_met-requires g t c κs within =
       ),
     )
 
-pub lists::elements_met-settled-requires-clause-taken : goal.lists::elements_met-settled-requires-clause-taken
-lists::elements_met-settled-requires-clause-taken g t c =
-    let branch = subst (IsBranch (IsKept g.R.Narrow.refuses g.R.Narrow.is_value)) (sym c.loop-at.invariant.further ∙ c.in-Some-further.is) c.in_ok-further.ensures.form in
+pub lists::meet_elements-settle_rest-requires-clause-taken : goal.lists::meet_elements-settle_rest-requires-clause-taken
+lists::meet_elements-settle_rest-requires-clause-taken g t c =
+    let branch = subst (IsBranch (IsRowKept g.R.Narrow.refuses g.R.Narrow.is_value)) (sym c.loop-at.invariant.further ∙ c.in-Some-further.is) c.in_ok-further.ensures.form in
     branch.0
 
-pub lists::elements_met-settled-requires-clause-rest : goal.lists::elements_met-settled-requires-clause-rest
-lists::elements_met-settled-requires-clause-rest g t c =
-    let branch = subst (IsBranch (IsKept g.R.Narrow.refuses g.R.Narrow.is_value)) (sym c.loop-at.invariant.further ∙ c.in-Some-further.is) c.in_ok-further.ensures.form in
+pub lists::meet_elements-settle_rest-requires-clause-rest : goal.lists::meet_elements-settle_rest-requires-clause-rest
+lists::meet_elements-settle_rest-requires-clause-rest g t c =
+    let branch = subst (IsBranch (IsRowKept g.R.Narrow.refuses g.R.Narrow.is_value)) (sym c.loop-at.invariant.further ∙ c.in-Some-further.is) c.in_ok-further.ensures.form in
     branch.1
 
-pub lists::elements_met-unreachable-requires : goal.lists::elements_met-unreachable-requires
-lists::elements_met-unreachable-requires g t c =
+pub lists::meet_elements-unreachable-requires : goal.lists::meet_elements-unreachable-requires
+lists::meet_elements-unreachable-requires g t c =
     let none = c.in_ok-further.ensures.there (sym c.loop-at.invariant.further ∙ c.in-None.is) in
     c.requires.rest (no_tree _ (sym c.rest.ensures ∙ none.0), no_tree _ (sym c.rest-2.ensures ∙ none.1))
 
-pub lists::elements_met-loop-at-preserved-in_ok-push : goal.lists::elements_met-loop-at-preserved-in_ok-push
-lists::elements_met-loop-at-preserved-in_ok-push g t c =
+pub lists::meet_elements-loop-at-preserved-in_ok-push : goal.lists::meet_elements-loop-at-preserved-in_ok-push
+lists::meet_elements-loop-at-preserved-in_ok-push g t c =
     let r = g.R.Narrow.refuses in
     let v = g.R.Narrow.is_value in
     let left = c.args.left.now in
@@ -116,8 +116,8 @@ lists::elements_met-loop-at-preserved-in_ok-push g t c =
       on_right = at_next right c.loop-at.at c.alike_end-end.result c.max-fixed.result c.loop-at.on_right _ on_right c.alike_end-end.ensures.right_on;
     }
 
-pub lists::elements_met-loop-at-preserved : goal.lists::elements_met-loop-at-preserved
-lists::elements_met-loop-at-preserved g t c =
+pub lists::meet_elements-loop-at-preserved : goal.lists::meet_elements-loop-at-preserved
+lists::meet_elements-loop-at-preserved g t c =
     let r = g.R.Narrow.refuses in
     let v = g.R.Narrow.is_value in
     let left = c.args.left.now in
@@ -133,30 +133,30 @@ lists::elements_met-loop-at-preserved g t c =
       on_right = at_next right c.loop-at.at c.alike_end-end.result c.max-fixed.result c.loop-at.on_right _ on_right c.alike_end-end.ensures.right_on;
     }
 
-pub lists::elements_met-returns : goal.lists::elements_met-returns
-lists::elements_met-returns g t c =
+pub lists::meet_elements-returns : goal.lists::meet_elements-returns
+lists::meet_elements-returns g t c =
     let r = g.R.Narrow.refuses in
-    sweeps_end r g.R.Narrow.is_value c.args.left.now c.args.right.now c.max-fixed.result c.loop-at.at c.loop-at.runs.items (option_map (λ node. node.now) c.rest.result) (option_map (λ node. node.now) c.rest-2.result) c.in-Some-further.node c.settled.result c.loop-at.invariant.sweeps c.loop-at-test.false
-    c.requires.left c.requires.right (omega (arith, c.fixed.ensures.number, c.max-fixed.ensures)) (omega (arith, c.fixed-2.ensures.number, c.max-fixed.ensures)) c.rest.ensures c.rest-2.ensures
-    (subst (λ o. AreMetRests r (option_map (λ node. node.now) c.rest.result) (option_map (λ node. node.now) c.rest-2.result) o) (sym c.loop-at.invariant.further ∙ c.in-Some-further.is) c.in_ok-further.ensures.refused) c.settled.ensures
+    sweeps_end r g.R.Narrow.is_value c.args.left.now c.args.right.now c.max-fixed.result c.loop-at.at c.loop-at.runs.items (option_map (λ node. node.now) c.rest.result) (option_map (λ node. node.now) c.rest-2.result) c.in-Some-further.node c.settle_rest.result c.loop-at.invariant.sweeps c.loop-at-test.false
+    c.requires.left c.requires.right (omega (arith, c.fixed_from.ensures.number, c.max-fixed.ensures)) (omega (arith, c.fixed_from-2.ensures.number, c.max-fixed.ensures)) c.rest.ensures c.rest-2.ensures
+    (subst (λ o. AreMetRests r (option_map (λ node. node.now) c.rest.result) (option_map (λ node. node.now) c.rest-2.result) o) (sym c.loop-at.invariant.further ∙ c.in-Some-further.is) c.in_ok-further.ensures.refused) c.settle_rest.ensures
 
 -- ---- an element of two places
-pub lists::element_met-found_met-requires : goal.lists::element_met-found_met-requires
-lists::element_met-found_met-requires g t c κs within =
-    let P = IsKept g.R.Narrow.refuses g.R.Narrow.is_value in
+pub lists::meet_element-meet_found-requires : goal.lists::meet_element-meet_found-requires
+lists::meet_element-meet_found-requires g t c κs within =
+    let P = IsRowKept g.R.Narrow.refuses g.R.Narrow.is_value in
     let left = at_found c.args.left.now.place.now c.args.first c.args.left.now c.requires.left in
     let right = at_found c.args.right.now.place.now c.args.first c.args.right.now c.requires.right in
     let deep = step_depth c.args.right.now.place.now (index c.args.first) _ right in
     (omega (arith, c.decreases, deep), (within.0, (within.1, (step_branch P c.args.left.now.place.now (index c.args.first) _ c.requires.left_form left, step_branch P c.args.right.now.place.now (index c.args.first) _ c.requires.right_form right))))
 
-pub lists::element_met-returns-clause-refused : goal.lists::element_met-returns-clause-refused
-lists::element_met-returns-clause-refused g t c =
+pub lists::meet_element-returns-clause-refused : goal.lists::meet_element-returns-clause-refused
+lists::meet_element-returns-clause-refused g t c =
     let left = at_found c.args.left.now.place.now c.args.first c.args.left.now c.requires.left in
     let right = at_found c.args.right.now.place.now c.args.first c.args.right.now c.requires.right in
-    IfOk-weaker c.found_met.result _ _ (λ o. met_as g.R.Narrow.refuses _ _ _ _ o left right) c.found_met.ensures.refused
+    IfOk-weaker c.meet_found.result _ _ (λ o. met_as g.R.Narrow.refuses _ _ _ _ o left right) c.meet_found.ensures.refused
 
-pub lists::element_met-returns-then-is_as_rest-2-clause-refused : goal.lists::element_met-returns-then-is_as_rest-2-clause-refused
-lists::element_met-returns-then-is_as_rest-2-clause-refused g t c =
+pub lists::meet_element-returns-then-is_as_rest-2-clause-refused : goal.lists::meet_element-returns-then-is_as_rest-2-clause-refused
+lists::meet_element-returns-then-is_as_rest-2-clause-refused g t c =
     let r = g.R.Narrow.refuses in
     let one = sym (c.is_as_rest.ensures c.if-is_as_rest.true) in
     let other = sym (c.is_as_rest-then-is_as_rest.ensures c.if-is_as_rest-2.true) in
@@ -165,19 +165,19 @@ lists::element_met-returns-then-is_as_rest-2-clause-refused g t c =
     c.copy_found.ensures
 
 -- ---- what changes in a list of branches
-pub changes::changed_by-place_from-requires-clause-rise : goal.changes::changed_by-place_from-requires-clause-rise
-changes::changed_by-place_from-requires-clause-rise g t c = branches_rise (IsKept g.R.Narrow.refuses g.R.Narrow.is_value) (branches c.args.left.now) c.requires.left
+pub changes::change_by-place_from-requires-clause-rise : goal.changes::change_by-place_from-requires-clause-rise
+changes::change_by-place_from-requires-clause-rise g t c = branches_rise (IsRowKept g.R.Narrow.refuses g.R.Narrow.is_value) (branches c.args.left.now) c.requires.left
 
-pub changes::changed_by-child_met-requires : goal.changes::changed_by-child_met-requires
-changes::changed_by-child_met-requires g t c κs within =
+pub changes::change_by-unify_child-requires : goal.changes::change_by-unify_child-requires
+changes::change_by-unify_child-requires g t c κs within =
     let r = g.R.Narrow.refuses in
     let v = g.R.Narrow.is_value in
     let place : IsPlace c.args.left.now (step_of c.args.other.step) c.in-Ok.kept = subst (λ s. IsPlace c.args.left.now (step_of s) c.in-Ok.kept) c.step.ensures c.in-Ok.ensures in
     let deep = ap tree_depth c.in_ok-other-in-Ok.ensures in
-    (omega (arith, c.decreases, deep), (within.0, (within.1, (at_form r v c.args.left.now c.in-Ok.kept c.branch_at.result.now c.requires.left place.in_range c.branch_at.ensures, subst (IsTree (IsKept r v)) (sym c.in_ok-other-in-Ok.ensures) c.requires.right))))
+    (omega (arith, c.decreases, deep), (within.0, (within.1, (at_form r v c.args.left.now c.in-Ok.kept c.branch_at.result.now c.requires.left place.in_range c.branch_at.ensures, subst (IsTree (IsRowKept r v)) (sym c.in_ok-other-in-Ok.ensures) c.requires.right))))
 
-pub changes::changed_by-returns-in_default : goal.changes::changed_by-returns-in_default
-changes::changed_by-returns-in_default g t c =
+pub changes::change_by-returns-in_default : goal.changes::change_by-returns-in_default
+changes::change_by-returns-in_default g t c =
     let r = g.R.Narrow.refuses in
     let place : IsPlace c.args.left.now (step_of c.args.other.step) c.in-Ok.kept = subst (λ s. IsPlace c.args.left.now (step_of s) c.in-Ok.kept) c.step.ensures c.in-Ok.ensures in
     let d = c.branch_at.result.now in (
@@ -187,12 +187,12 @@ changes::changed_by-returns-in_default g t c =
       rw add-one (passed c.args.left.now (step_of c.args.other.step) c.in-Ok.kept place),
     )
 
-pub changes::changed_by-returns-in-Err : goal.changes::changed_by-returns-in-Err
-changes::changed_by-returns-in-Err g t c =
+pub changes::change_by-returns-in-Err : goal.changes::change_by-returns-in-Err
+changes::change_by-returns-in-Err g t c =
     adds g.R.Narrow.refuses g.R.Narrow.is_value c.args.left.now c.args.other c.in-Err.kept c.requires.left (subst (λ s. IsGap c.args.left.now (step_of s) c.in-Err.kept) c.step.ensures c.in-Err.ensures)
 
-pub changes::changed_by-returns-in-Some : goal.changes::changed_by-returns-in-Some
-changes::changed_by-returns-in-Some g t c =
+pub changes::change_by-returns-in-Some : goal.changes::change_by-returns-in-Some
+changes::change_by-returns-in-Some g t c =
     let r = g.R.Narrow.refuses in
     let v = g.R.Narrow.is_value in
     let place : IsPlace c.args.left.now (step_of c.args.other.step) c.in-Ok.kept = subst (λ s. IsPlace c.args.left.now (step_of s) c.in-Ok.kept) c.step.ensures c.in-Ok.ensures in
@@ -200,12 +200,12 @@ changes::changed_by-returns-in-Some g t c =
     let e = c.in-Some.child in
     alters r v c.args.left.now c.args.other d e c.in-Ok.kept c.requires.left place c.branch_at.ensures
     (subst (λ met. (or_old met d).step ≡ d.step) c.in-Some.is c.in_ok-child-in-Ok.ensures.step)
-    (subst (λ met. IsTree (IsKept r v) (or_old met d).node) c.in-Some.is c.in_ok-child-in-Ok.ensures.form)
+    (subst (λ met. IsTree (IsRowKept r v) (or_old met d).node) c.in-Some.is c.in_ok-child-in-Ok.ensures.form)
     (subst (λ n. IsMet r d.node n e.node) c.in_ok-other-in-Ok.ensures
     (subst (λ met. IsMet r d.node c.in_ok-other-in-Ok.other (or_old met d).node) c.in-Some.is c.in_ok-child-in-Ok.ensures.refused))
 
-pub changes::changes-changed_by-requires : goal.changes::changes-changed_by-requires
-changes::changes-changed_by-requires g t c κs within =
+pub changes::changes-change_by-requires : goal.changes::changes-change_by-requires
+changes::changes-change_by-requires g t c κs within =
     let r = g.R.Narrow.refuses in
     let v = g.R.Narrow.is_value in
     let left = c.args.left.now in
@@ -219,17 +219,17 @@ changes::changes-changed_by-requires g t c κs within =
     let form = first_form r v left right rest all others c.loop-other.past c.loop-other.changes.items c.in-Some.other begun first in
     (omega (arith, c.decreases, deep), (within.0, (within.1, (begun.rest_form, (form, begun.ahead c.in-Some.other others first)))))
 
-pub changes::changes-behind-rest-requires : goal.changes::changes-behind-rest-requires
-changes::changes-behind-rest-requires g t c =
+pub changes::changes-skip_change-rest-requires : goal.changes::changes-skip_change-rest-requires
+changes::changes-skip_change-rest-requires g t c =
     let r = g.R.Narrow.refuses in
-    let change : IsChange r (IsKept r g.R.Narrow.is_value) c.loop-other.rest.now c.in-Some.other (Some c.in-New.change) =
-    subst (IsFound r (IsKept r g.R.Narrow.is_value) c.loop-other.rest.now c.in-Some.other) c.in-New.is c.in_ok-count.ensures in
+    let change : IsChange r (IsRowKept r g.R.Narrow.is_value) c.loop-other.rest.now c.in-Some.other (Some c.in-New.change) =
+    subst (IsFound r (IsRowKept r g.R.Narrow.is_value) c.loop-other.rest.now c.in-Some.other) c.in-New.is c.in_ok-count.ensures in
     (change.fit [] tt).0
 
 pub changes::changes-loop-other-preserved : goal.changes::changes-loop-other-preserved
 changes::changes-loop-other-preserved g t c =
-    goes_on g.R.Narrow.refuses g.R.Narrow.is_value c.args.left.now c.args.right.items c.loop-other.rest.now (into_iter_items c.loop-other.others) (into_iter_items c.next.new.self) c.behind-rest.result.now c.loop-other.past c.loop-other.changes.items c.push.new.self.items c.in-Some.other c.in-New.change c.in_ok-count.field-0
-    c.loop-other.invariant c.in-Some.ensures.items c.in_ok-count.ensures c.in-New.is c.behind-rest.ensures c.in_ok-push-in-New.ensures.items
+    goes_on g.R.Narrow.refuses g.R.Narrow.is_value c.args.left.now c.args.right.items c.loop-other.rest.now (into_iter_items c.loop-other.others) (into_iter_items c.next.new.self) c.skip_change-rest.result.now c.loop-other.past c.loop-other.changes.items c.push.new.self.items c.in-Some.other c.in-New.change c.in_ok-count.field-0
+    c.loop-other.invariant c.in-Some.ensures.items c.in_ok-count.ensures c.in-New.is c.skip_change-rest.ensures c.in_ok-push-in-New.ensures.items
 
 pub changes::changes-loop-other-preserved-in-Same : goal.changes::changes-loop-other-preserved-in-Same
 changes::changes-loop-other-preserved-in-Same g t c =
@@ -245,34 +245,34 @@ changes::changes-returns-clause-union g t c =
     (goes_end g.R.Narrow.refuses g.R.Narrow.is_value c.args.left.now c.args.right.items c.loop-other.rest.now (into_iter_items c.loop-other.others) c.loop-other.past c.loop-other.changes.items c.loop-other.invariant (sym c.loop-other.others.rest.ok.0 ∙ c.in_default.ensures.cases.0)).1
 
 -- ---- two branches that may be there
-pub lists::whole_met-returns-clause-form : goal.lists::whole_met-returns-clause-form
-lists::whole_met-returns-clause-form g t c = subst (IsTree (IsKept g.R.Narrow.refuses g.R.Narrow.is_value)) (sym c.in_ok-node_or.ensures) c.in_ok-met.ensures.form
+pub lists::meet_whole-returns-clause-form : goal.lists::meet_whole-returns-clause-form
+lists::meet_whole-returns-clause-form g t c = subst (IsTree (IsRowKept g.R.Narrow.refuses g.R.Narrow.is_value)) (sym c.in_ok-node_or.ensures) c.in_ok-met.ensures.form
 
-pub lists::whole_met-returns-clause-refused : goal.lists::whole_met-returns-clause-refused
-lists::whole_met-returns-clause-refused g t c =
+pub lists::meet_whole-returns-clause-refused : goal.lists::meet_whole-returns-clause-refused
+lists::meet_whole-returns-clause-refused g t c =
     let r = g.R.Narrow.refuses in
     subst (IsMet r c.args.left.now c.args.right.now) (sym c.in_ok-node_or.ensures)
     (subst (λ n. IsMet r c.args.left.now n (or_old c.in_ok-met.met c.args.left.now)) c.in_ok-copy.ensures c.in_ok-met.ensures.refused)
 
-pub lists::found_met-returns-in_ok-whole_met-in-Some-Some-clause-form : goal.lists::found_met-returns-in_ok-whole_met-in-Some-Some-clause-form
-lists::found_met-returns-in_ok-whole_met-in-Some-Some-clause-form g t c =
-    let left = subst (λ o. IsBranch (IsKept g.R.Narrow.refuses g.R.Narrow.is_value) (option_map (λ node. node.now) o)) c.in-Some-Some.is-0 c.requires.left in
-    (met_taken g.R.Narrow.refuses g.R.Narrow.is_value c.in-Some-Some.node.now c.in-Some-Some.other.now c.in_ok-whole_met-in-Some-Some.field-0 left.0 left.1 c.in_ok-whole_met-in-Some-Some.ensures.refused, c.in_ok-whole_met-in-Some-Some.ensures.form)
+pub lists::meet_found-returns-in_ok-meet_whole-in-Some-Some-clause-form : goal.lists::meet_found-returns-in_ok-meet_whole-in-Some-Some-clause-form
+lists::meet_found-returns-in_ok-meet_whole-in-Some-Some-clause-form g t c =
+    let left = subst (λ o. IsBranch (IsRowKept g.R.Narrow.refuses g.R.Narrow.is_value) (option_map (λ node. node.now) o)) c.in-Some-Some.is-0 c.requires.left in
+    (met_taken g.R.Narrow.refuses g.R.Narrow.is_value c.in-Some-Some.node.now c.in-Some-Some.other.now c.in_ok-meet_whole-in-Some-Some.field-0 left.0 left.1 c.in_ok-meet_whole-in-Some-Some.ensures.refused, c.in_ok-meet_whole-in-Some-Some.ensures.form)
 
 -- ---- two places of which one has a rest
-pub lists::list_met-field_count-requires : goal.lists::list_met-field_count-requires
-lists::list_met-field_count-requires g t c =
-    subst (λ cs. Rise (branches cs)) (sym c.deref-2.ensures.value)
-    (branches_rise (IsKept g.R.Narrow.refuses g.R.Narrow.is_value) (branches c.left.inside.children.items) (branches_form (IsKept g.R.Narrow.refuses g.R.Narrow.is_value) c.left.inside c.args.left.now c.left.view_is c.requires.left))
+pub lists::meet_lists-field_count-requires : goal.lists::meet_lists-field_count-requires
+lists::meet_lists-field_count-requires g t c =
+    subst (λ cs. StepsRise (branches cs)) (sym c.deref-2.ensures.value)
+    (branches_rise (IsRowKept g.R.Narrow.refuses g.R.Narrow.is_value) (branches c.left.inside.children.items) (branches_form (IsRowKept g.R.Narrow.refuses g.R.Narrow.is_value) c.left.inside c.args.left.now c.left.view_is c.requires.left))
 
-pub lists::list_met-field_count-requires-2 : goal.lists::list_met-field_count-requires-2
-lists::list_met-field_count-requires-2 g t c =
-    subst (λ cs. Rise (branches cs)) (sym c.deref-4.ensures.value)
-    (branches_rise (IsKept g.R.Narrow.refuses g.R.Narrow.is_value) (branches c.right.inside.children.items) (branches_form (IsKept g.R.Narrow.refuses g.R.Narrow.is_value) c.right.inside c.args.right.now c.right.view_is c.requires.right))
+pub lists::meet_lists-field_count-requires-2 : goal.lists::meet_lists-field_count-requires-2
+lists::meet_lists-field_count-requires-2 g t c =
+    subst (λ cs. StepsRise (branches cs)) (sym c.deref-4.ensures.value)
+    (branches_rise (IsRowKept g.R.Narrow.refuses g.R.Narrow.is_value) (branches c.right.inside.children.items) (branches_form (IsRowKept g.R.Narrow.refuses g.R.Narrow.is_value) c.right.inside c.args.right.now c.right.view_is c.requires.right))
 
-pub lists::list_met-meet_below-requires : goal.lists::list_met-meet_below-requires
-lists::list_met-meet_below-requires g t c κs within =
-    let P = IsKept g.R.Narrow.refuses g.R.Narrow.is_value in
+pub lists::meet_lists-meet_below-requires : goal.lists::meet_lists-meet_below-requires
+lists::meet_lists-meet_below-requires g t c κs within =
+    let P = IsRowKept g.R.Narrow.refuses g.R.Narrow.is_value in
     let own = c.in_ok-children.ensures ∙ c.split_at.ensures.front ∙ ap (take c.field_count.result) c.deref.ensures.value in
     let deep = fields_depth c.right.inside c.args.right.now c.field_count-2.result c.right.view_is in
     let others = c.in_ok-others.ensures ∙ c.split_at-2.ensures.front ∙ ap (take c.field_count-2.result) c.deref-3.ensures.value in
@@ -290,10 +290,10 @@ lists::list_met-meet_below-requires g t c κs within =
       ),
     )
 
-pub lists::list_met-returns-clause-form : goal.lists::list_met-returns-clause-form
-lists::list_met-returns-clause-form g t c =
+pub lists::meet_lists-returns-clause-form : goal.lists::meet_lists-returns-clause-form
+lists::meet_lists-returns-clause-form g t c =
     let r = g.R.Narrow.refuses in
-    let P = IsKept r g.R.Narrow.is_value in
+    let P = IsRowKept r g.R.Narrow.is_value in
     let made = c.in_ok-new.field-0.value in
     let elements = subst (λ o. AreElementsMet r P c.args.left.now c.args.right.now o) (sym c.in_ok-new.ensures.ok) c.in_ok-onward.ensures in
     let own = c.in_ok-children.ensures ∙ c.split_at.ensures.front ∙ ap (take c.field_count.result) (c.deref.ensures.value ∙ sym c.deref-2.ensures.value) in
@@ -301,14 +301,14 @@ lists::list_met-returns-clause-form g t c =
     let merge : IsMerge r P (branches c.in_ok-children.children.items) (branches c.in_ok-others.others.items) (branches c.meet_below.new.left.items) = c.in_ok-meet_below.ensures.ok in
     let within =
     merged_within r g.R.Narrow.is_value 0 (branches c.in_ok-children.children.items) (branches c.in_ok-others.others.items) (branches c.meet_below.new.left.items)
-    (subst (λ cs. AreWithin 0 (branches cs)) (sym own) c.field_count.ensures.within) (subst (λ cs. AreWithin 0 (branches cs)) (sym others) c.field_count-2.ensures.within) merge in
+    (subst (λ cs. AreWithinDepth 0 (branches cs)) (sym own) c.field_count.ensures.within) (subst (λ cs. AreWithinDepth 0 (branches cs)) (sym others) c.field_count-2.ensures.within) merge in
     list_form P c.in_ok-row-2.row (branches c.meet_below.new.left.items) (run_branches made.runs.items) made.from made.node
-    (subst (IsRow P) (sym c.in_ok-row-2.ensures) c.in_ok-row.ensures.form) merge.form within elements.form elements.indexes elements.rest
+    (subst (IsTableRow P) (sym c.in_ok-row-2.ensures) c.in_ok-row.ensures.form) merge.form within elements.form elements.indexes elements.rest
 
-pub lists::list_met-returns-clause-refused : goal.lists::list_met-returns-clause-refused
-lists::list_met-returns-clause-refused g t c =
+pub lists::meet_lists-returns-clause-refused : goal.lists::meet_lists-returns-clause-refused
+lists::meet_lists-returns-clause-refused g t c =
     let r = g.R.Narrow.refuses in
-    let P = IsKept r g.R.Narrow.is_value in
+    let P = IsRowKept r g.R.Narrow.is_value in
     let made = c.in_ok-new.field-0.value in
     let elements = subst (λ o. AreElementsMet r P c.args.left.now c.args.right.now o) (sym c.in_ok-new.ensures.ok) c.in_ok-onward.ensures in
     let own = c.in_ok-children.ensures ∙ c.split_at.ensures.front ∙ ap (take c.field_count.result) (c.deref.ensures.value ∙ sym c.deref-2.ensures.value) in
@@ -316,7 +316,7 @@ lists::list_met-returns-clause-refused g t c =
     let merge : IsMerge r P (branches c.in_ok-children.children.items) (branches c.in_ok-others.others.items) (branches c.meet_below.new.left.items) = c.in_ok-meet_below.ensures.ok in
     let within =
     merged_within r g.R.Narrow.is_value 0 (branches c.in_ok-children.children.items) (branches c.in_ok-others.others.items) (branches c.meet_below.new.left.items)
-    (subst (λ cs. AreWithin 0 (branches cs)) (sym own) c.field_count.ensures.within) (subst (λ cs. AreWithin 0 (branches cs)) (sym others) c.field_count-2.ensures.within) merge in
+    (subst (λ cs. AreWithinDepth 0 (branches cs)) (sym own) c.field_count.ensures.within) (subst (λ cs. AreWithinDepth 0 (branches cs)) (sym others) c.field_count-2.ensures.within) merge in
     list_met r P c.left.inside c.right.inside c.args.left.now c.args.right.now c.in_ok-children.children.items c.in_ok-others.others.items c.in_ok-row-2.row (branches c.meet_below.new.left.items) made c.left.view_is c.right.view_is
     (λ text. ap (λ cs. find (label text) (branches cs)) own ∙ c.field_count.ensures.same text ∙ ap (λ cs. find (label text) (branches cs)) c.deref-2.ensures.value)
     (λ text. ap (λ cs. find (label text) (branches cs)) others ∙ c.field_count-2.ensures.same text ∙ ap (λ cs. find (label text) (branches cs)) c.deref-4.ensures.value)
@@ -328,10 +328,10 @@ lists::list_met-returns-clause-refused g t c =
 pub meet::meet_own-returns-then-is_empty-clause-ok : goal.meet::meet_own-returns-then-is_empty-clause-ok
 meet::meet_own-returns-then-is_empty-clause-ok g t c =
     let r = g.R.Narrow.refuses in
-    let P = IsKept r g.R.Narrow.is_value in
+    let P = IsRowKept r g.R.Narrow.is_value in
     let cs = c.left.inside.children.items in
-    let left : rest_in c.left.inside.rest ≡ no_rest = ap rest_of c.left.view_is ∙ c.requires.left_rest in
-    let right : rest_in c.right.inside.rest ≡ no_rest = ap rest_of c.right.view_is ∙ c.requires.right_rest in
+    let left : rest_in c.left.inside.rest ≡ no_rest = ap rest_below c.left.view_is ∙ c.requires.left_rest in
+    let right : rest_in c.right.inside.rest ≡ no_rest = ap rest_below c.right.view_is ∙ c.requires.right_rest in
     let own = own_only (branches cs) c.left.inside.rest left in
     let nothing = nil_from_length c.right.inside.children.items (grind (arith, c.is_empty.ensures, c.if-is_empty.true, c.right.inside.children.ok.0)) in
     let merge : IsMerge r P (branches cs) (branches c.right.inside.children.items) (branches cs) = subst (λ xs. IsMerge r P (branches cs) (branches xs) (branches cs)) (sym nothing) (merge_stay r P (branches cs) (branches_form P c.left.inside c.args.left.now c.left.view_is c.requires.left)) in
@@ -341,10 +341,10 @@ meet::meet_own-returns-then-is_empty-clause-ok g t c =
 pub meet::meet_own-returns-clause-ok : goal.meet::meet_own-returns-clause-ok
 meet::meet_own-returns-clause-ok g t c =
     let cs = c.meet_below.new.left.items in
-    let left : rest_in c.left.inside.rest ≡ no_rest = ap rest_of c.left.view_is ∙ c.requires.left_rest in
-    let right : rest_in c.right.inside.rest ≡ no_rest = ap rest_of c.right.view_is ∙ c.requires.right_rest in
+    let left : rest_in c.left.inside.rest ≡ no_rest = ap rest_below c.left.view_is ∙ c.requires.left_rest in
+    let right : rest_in c.right.inside.rest ≡ no_rest = ap rest_below c.right.view_is ∙ c.requires.right_rest in
     let own = own_only (branches cs) c.left.inside.rest left in
-    let met = met_nodes g.R.Narrow.refuses (IsKept g.R.Narrow.refuses g.R.Narrow.is_value) c.left.inside c.right.inside c.args.left.now c.args.right c.match-met-2.left (or_row c.in_ok-met.met c.left.inside.row) (branches cs) c.left.view_is c.right.view_is
+    let met = met_nodes g.R.Narrow.refuses (IsRowKept g.R.Narrow.refuses g.R.Narrow.is_value) c.left.inside c.right.inside c.args.left.now c.args.right c.match-met-2.left (or_row c.in_ok-met.met c.left.inside.row) (branches cs) c.left.view_is c.right.view_is
     left right c.in_ok-met.ensures.refused c.in_ok-meet_below.ensures.ok in
     elim c.match-met-2.branch [
       | meet::meet_own-in-Some+in-Some-1 w ↦ met (w.left-is ∙ (λ i. node (or_row (sym w.in-Some.is i) c.left.inside.row) (own i) (left i)))
@@ -353,7 +353,7 @@ meet::meet_own-returns-clause-ok g t c =
     ]
 
 pub meet::meet_one-place-requires : goal.meet::meet_one-place-requires
-meet::meet_one-place-requires g t c = rw c.deref.ensures.value (branches_rise (IsKept g.R.Narrow.refuses g.R.Narrow.is_value) (branches c.args.left.now.items) c.requires.left)
+meet::meet_one-place-requires g t c = rw c.deref.ensures.value (branches_rise (IsRowKept g.R.Narrow.refuses g.R.Narrow.is_value) (branches c.args.left.now.items) c.requires.left)
 
 pub meet::meet_one-meet_child-requires : goal.meet::meet_one-meet_child-requires
 meet::meet_one-meet_child-requires g t c κs within =
@@ -362,7 +362,7 @@ meet::meet_one-meet_child-requires g t c κs within =
     let place : IsPlace c.args.left.now.items (step_of c.args.other.step) c.in-Ok.at = subst (λ s. IsPlace c.args.left.now.items (step_of s) c.in-Ok.at) c.step.ensures (rw c.deref.ensures.value at c.in-Ok.ensures) in
     let mine = c.requires.right in
     let deep = ap tree_depth c.in_ok-node-in-Ok.ensures in
-    (omega (arith, c.decreases, deep), (within.0, (within.1, (at_form r v c.args.left.now.items c.in-Ok.at c.index_mut.result.now c.requires.left place.in_range c.index_mut.ensures.value, subst (IsTree (IsKept r v)) (sym c.in_ok-node-in-Ok.ensures) mine.2))))
+    (omega (arith, c.decreases, deep), (within.0, (within.1, (at_form r v c.args.left.now.items c.in-Ok.at c.index_mut.result.now c.requires.left place.in_range c.index_mut.ensures.value, subst (IsTree (IsRowKept r v)) (sym c.in_ok-node-in-Ok.ensures) mine.2))))
 
 pub meet::meet_one-returns-in_ok-node-in-Ok-clause-ok : goal.meet::meet_one-returns-in_ok-node-in-Ok-clause-ok
 meet::meet_one-returns-in_ok-node-in-Ok-clause-ok g t c =
@@ -378,10 +378,10 @@ meet::meet_one-returns-in-Err-clause-ok g t c =
     on_ok_weaker c.insert.result (put_in g.R.Narrow.refuses g.R.Narrow.is_value c.args.left.now.items c.insert.new.children.items c.args.other c.in-Err.at c.requires.left c.requires.right gap) c.insert.ensures.ok
 
 -- ---- a place that stays as it is, or another one
-pub meet::node_met-returns-then-is_none-2-clause-refused : goal.meet::node_met-returns-then-is_none-2-clause-refused
-meet::node_met-returns-then-is_none-2-clause-refused g t c =
+pub meet::meet_nodes-returns-then-is_none-2-clause-refused : goal.meet::meet_nodes-returns-then-is_none-2-clause-refused
+meet::meet_nodes-returns-then-is_none-2-clause-refused g t c =
     let r = g.R.Narrow.refuses in
-    let P = IsKept r g.R.Narrow.is_value in
+    let P = IsRowKept r g.R.Narrow.is_value in
     let a = c.left.inside in
     let b = c.right.inside in
     let list = c.in_ok-children.children in
@@ -392,15 +392,15 @@ meet::node_met-returns-then-is_none-2-clause-refused g t c =
     (ap (λ l. branches (or_old (option_map (λ list. list.items) l) c.deref.result.now)) none ∙ ap branches c.deref.ensures.value) c.in_ok-row.ensures.refused
     (subst (λ cs. IsMerge r P (branches cs) (branches b.children.items) (branches after)) c.deref.ensures.value c.in_ok-children.ensures)
 
-pub meet::node_met-returns-clause-refused : goal.meet::node_met-returns-clause-refused
-meet::node_met-returns-clause-refused g t c =
+pub meet::meet_nodes-returns-clause-refused : goal.meet::meet_nodes-returns-clause-refused
+meet::meet_nodes-returns-clause-refused g t c =
     let r = g.R.Narrow.refuses in
     let a = c.left.inside in
     let b = c.right.inside in
     let left = no_rest_there a.rest (sym c.if-is_some.ensures) in
     let right = no_rest_there b.rest (sym c.if-is_some-2.ensures) in
     let items = c.in_ok-children_or.ensures ∙ ap (or_old (option_map (λ list. list.items) c.in_ok-children.children)) c.deref-2.ensures.value in
-    met_nodes r (IsKept r g.R.Narrow.is_value) a b c.args.left.now c.args.right _ c.in_ok-row_or.field-0 (branches c.in_ok-children_or.field-0.items) c.left.view_is c.right.view_is left right
+    met_nodes r (IsRowKept r g.R.Narrow.is_value) a b c.args.left.now c.args.right _ c.in_ok-row_or.field-0 (branches c.in_ok-children_or.field-0.items) c.left.view_is c.right.view_is left right
     (subst (λ row. IsUnion (RowRefuses r a.row) (RowRefuses r b.row) (RowRefuses r row)) (sym c.in_ok-row_or.ensures) c.in_ok-row.ensures.refused)
-    (subst (λ cs. IsMerge r (IsKept r g.R.Narrow.is_value) (branches a.children.items) (branches b.children.items) (branches cs)) (sym items)
-    (subst (λ cs. IsMerge r (IsKept r g.R.Narrow.is_value) (branches cs) (branches b.children.items) (branches (or_old (option_map (λ list. list.items) c.in_ok-children.children) cs))) c.deref.ensures.value c.in_ok-children.ensures)) refl
+    (subst (λ cs. IsMerge r (IsRowKept r g.R.Narrow.is_value) (branches a.children.items) (branches b.children.items) (branches cs)) (sym items)
+    (subst (λ cs. IsMerge r (IsRowKept r g.R.Narrow.is_value) (branches cs) (branches b.children.items) (branches (or_old (option_map (λ list. list.items) c.in_ok-children.children) cs))) c.deref.ensures.value c.in_ok-children.ensures)) refl

@@ -5,7 +5,7 @@ use Rattle.cue_table.specs.Depth.{tree_depth, children_depth}
 use Rattle.cue_table.specs.Inner.Sides.{IsAt}
 use Rattle.cue_table.specs.Inner.View.{branches}
 use Rattle.cue_table.proofs.Changing.{GoesOn}
-use Rattle.cue_table.proofs.Sweeping.{Sweeps, found_depth}
+use Rattle.cue_table.proofs.Sweeping.{IsMetUpTo, found_depth}
 use Rattle.cue_table.proofs.+meet.Given as goal
 
 abbrev pub decreases-meet::meet_one : goal.decreases-meet::meet_one
@@ -60,13 +60,13 @@ invariant-changes::changes-loop-other g l =
 abbrev pub decreases-changes::changes-loop-other : goal.decreases-changes::changes-loop-other
 decreases-changes::changes-loop-other g l = into_iter_len l.others
 
-abbrev pub invariant-lists::elements_met-loop-at : goal.invariant-lists::elements_met-loop-at
-invariant-lists::elements_met-loop-at g l = record {
-  sweeps : Sweeps g.R.Narrow.refuses g.R.Narrow.is_value l.left l.right l.fixed l.runs.items l.at;
+abbrev pub invariant-lists::meet_elements-loop-at : goal.invariant-lists::meet_elements-loop-at
+invariant-lists::meet_elements-loop-at g l = record {
+  sweeps : IsMetUpTo g.R.Narrow.refuses g.R.Narrow.is_value l.left l.right l.fixed l.runs.items l.at;
   further : l.further ≡ l.initial.further;
   on_left : l.at < l.fixed → IsAt l.left l.at l.on_left;
   on_right : l.at < l.fixed → IsAt l.right l.at l.on_right;
 }
 
-abbrev pub decreases-lists::elements_met-loop-at : goal.decreases-lists::elements_met-loop-at
-decreases-lists::elements_met-loop-at g l = l.fixed - l.at
+abbrev pub decreases-lists::meet_elements-loop-at : goal.decreases-lists::meet_elements-loop-at
+decreases-lists::meet_elements-loop-at g l = l.fixed - l.at

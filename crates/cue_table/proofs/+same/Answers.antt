@@ -1,6 +1,6 @@
 use Rattle.std.proofs.Common.{sym, ap, min, ◌∙◌, arith}
 use Rattle.cue_table.specs.Size.{tree_size, children_size}
-use Rattle.cue_table.specs.Spans.{spread}
+use Rattle.cue_table.specs.Spans.{branches_of_spans}
 use Rattle.cue_table.specs.StepsOfCode.{span_of}
 use Rattle.cue_table.specs.Inner.Cursors.{spans_left}
 use Rattle.cue_table.specs.Inner.View.{branches}
@@ -50,7 +50,7 @@ same::same_children-same-requires-else-not-same g t c κs within =
 pub same::same_below-returns-in_default-next : goal.same::same_below-returns-in_default-next
 same::same_below-returns-in_default-next g t c = (
   λ no. absurd (cc),
-  λ h. absurd (not_none (span_of c.in-Some.span) c.in-Some.node.now (spans_left c.loop-span.left) (spans_left c.next.new.self) c.in-Some.ensures.some (c.loop-span.invariant.same.0 h ∙ ap spread c.in_default-next.ensures.none)),
+  λ h. absurd (not_none (span_of c.in-Some.span) c.in-Some.node.now (spans_left c.loop-span.left) (spans_left c.next.new.self) c.in-Some.ensures.some (c.loop-span.invariant.same.0 h ∙ ap branches_of_spans c.in_default-next.ensures.none)),
 )
 
 pub same::same_below-same-requires-else-not-same :

@@ -1,8 +1,8 @@
 -- Beside `specs/Form.antt`: what private clauses and proofs alone cite.
 use Rattle.cue_table.specs.Tree.{Children, none, child}
-use Rattle.cue_table.specs.Form.{IsBelowAll}
+use Rattle.cue_table.specs.Form.{IsStepBelowAll}
 
 -- the steps rise
-abbrev pub Rise : {R : Type 0} → Children R → Type 0
-Rise none = Unit {0}
-Rise (child step tree children) = IsBelowAll step children × Rise children
+abbrev pub StepsRise : {R : Type 0} → Children R → Type 0
+StepsRise none = Unit {0}
+StepsRise (child step tree children) = IsStepBelowAll step children × StepsRise children

@@ -4,9 +4,9 @@ use Rattle.cue_lattice.specs.Limits.{step_limit}
 use Rattle.cue_row.specs.Steps.{step_of}
 use Rattle.cue_row.specs.declared.step.Step.{Step}
 use Rattle.cue_table.specs.Depth.{tree_depth}
-use Rattle.cue_table.specs.Form.{IsTable, IsTaken}
+use Rattle.cue_table.specs.Form.{IsTable, IsTreeTaken}
 use Rattle.cue_table.specs.Inner.Child.{Child}
-use Rattle.cue_table.specs.Tree.{Tree, node, none, child, no_rest, taken}
+use Rattle.cue_table.specs.Tree.{Tree, node, none, child, no_rest, if_not_empty}
 
 -- a branch as it is given
 abbrev pub given_of : {R : Type 0} → Child R → Step × Tree R
@@ -14,13 +14,13 @@ given_of c = (c.step, c.node)
 
 -- a row stands in the table that is given
 abbrev pub has_rows : {R : Type 0} → Step × Tree R → Bool
-has_rows one = is_some (taken one.1)
+has_rows one = is_some (if_not_empty one.1)
 
 -- what may be a branch at the root of a table
 abbrev pub IsBranch : {R Q : Type 0} → (R → Q → Type 0) → (R → Type 0) → Child R → Type 0
 IsBranch refuses is_value c =
-    IsTaken c.node × IsTable refuses is_value c.node × (tree_depth c.node < step_limit)
+    IsTreeTaken c.node × IsTable refuses is_value c.node × (tree_depth c.node < step_limit)
 
 -- the tree that has one branch alone
-abbrev pub hung : {R : Type 0} → Child R → Tree R
-hung c = node None (child (step_of c.step) c.node none) no_rest
+abbrev pub tree_of_branch : {R : Type 0} → Child R → Tree R
+tree_of_branch c = node None (child (step_of c.step) c.node none) no_rest

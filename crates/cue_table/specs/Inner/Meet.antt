@@ -6,9 +6,9 @@ use Rattle.cue_lattice.specs.Path.{Path}
 use Rattle.cue_table.specs.Tree.{Tree, node, Children, none, no_rest, row_of, find}
 use Rattle.cue_table.specs.Tree.{branch_at}
 use Rattle.cue_table.specs.Refuses.{RowRefuses}
-use Rattle.cue_table.specs.Form.{IsBelowAll, AreBranches}
+use Rattle.cue_table.specs.Form.{IsStepBelowAll, AreBranches}
 use Rattle.cue_table.specs.Meet.{IsUnion}
-use Rattle.cue_table.specs.Inner.Rests.{along}
+use Rattle.cue_table.specs.Inner.Rests.{tree_along}
 
 -- what the branches refuse at a step and then a path
 abbrev pub BranchesRefuse : {R Q : Type 0} → (R → Q → Type 0) → Children R → paths.Step → Path
@@ -31,9 +31,9 @@ pub record IsMerge {R Q : Type 0} (refuses : R → Q → Type 0) (P : R → Type
     (left right met : Children R) : Type 0 where
   pub form : AreBranches P met
   pub refused : AreMet refuses left right met
-  pub above : (step : paths.Step) → IsBelowAll step left → IsBelowAll step right
-      → IsBelowAll step met
+  pub above : (step : paths.Step) → IsStepBelowAll step left → IsStepBelowAll step right
+      → IsStepBelowAll step met
 
 -- one row alone, at its path
 abbrev pub chain : {R : Type 0} → Path → R → Tree R
-chain path row = along path (node (Some row) none no_rest)
+chain path row = tree_along path (node (Some row) none no_rest)

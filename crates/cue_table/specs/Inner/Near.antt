@@ -7,8 +7,8 @@ use Rattle.cue_row.specs.Steps.{step_of}
 use Rattle.cue_table.specs.Inner.Child.{Child}
 
 -- it is the end of the list, or the branch before it stands at the step or behind it
-abbrev pub Reaches : {R : Type 0} → List (Child R) → paths.Step → ℕ → Type 0
-Reaches {R} children step end =
+abbrev pub ReachesNear : {R : Type 0} → List (Child R) → paths.Step → ℕ → Type 0
+ReachesNear {R} children step end =
     (end ≡ length children)
     ⊎ ((0 < end) × (end < length children)
     × ((d : Child R) → step_cmp (step_of (slice_index_or children (end - 1) d).step) step ≢ Less))

@@ -4,9 +4,9 @@ use Rattle.std.specs.declared.cmp.Ordering.TheVariants.{Less}
 use Rattle.cue_lattice.specs.Path as paths
 use Rattle.cue_lattice.specs.Path.{step_cmp}
 use Rattle.cue_row.specs.Steps.{step_of}
-use Rattle.cue_table.specs.Form.{IsBelowAll}
+use Rattle.cue_table.specs.Form.{IsStepBelowAll}
 use Rattle.cue_table.specs.Tree.{Children, none, child, find}
-use Rattle.cue_table.specs.Inner.Parts.{past}
+use Rattle.cue_table.specs.Inner.Parts.{branches_past}
 use Rattle.cue_table.specs.Inner.View.{branches}
 use Rattle.cue_table.specs.Inner.Child.{Child}
 
@@ -37,4 +37,4 @@ pub record IsGap {R : Type 0} (children : List (Child R)) (step : paths.Step)
   pub in_range : at ≤ length children
   pub absent : find step (branches children) ≡ None
   pub before : AreBefore at step (branches children)
-  pub after : IsBelowAll step (past at (branches children))
+  pub after : IsStepBelowAll step (branches_past at (branches children))

@@ -8,12 +8,12 @@ use Rattle.cue_lattice.specs.Path.{label, index, Path}
 use Rattle.cue_table.specs.Tree.{Tree, node, Children, none, child, no_rest, onward, row_of, find}
 use Rattle.cue_table.specs.Tree.{find_with, step_into}
 use Rattle.cue_table.specs.Tree.{branch_at}
-use Rattle.cue_table.specs.Form.{IsTaken, IsTree, AreBranches, AreWithin, IsRestOf}
+use Rattle.cue_table.specs.Form.{IsTreeTaken, IsTree, AreBranches, AreWithinDepth, IsRestOf}
 use Rattle.cue_table.specs.Inner.Runs.{AreFrom}
 use Rattle.cue_table.specs.Inner.View.{branches, last_of, run_branches}
 use Rattle.cue_table.specs.Inner.Child.{Child}
 use Rattle.cue_table.specs.declared.node.Onward.{Onward}
-use Rattle.cue_table.specs.declared.node.Run.{Run}
+use Rattle.cue_table.specs.declared.node.ElementRun.{ElementRun}
 use Rattle.cue_table.specs.Meet.{IsUnion}
 use Rattle.cue_table.specs.Refuses.{RowRefuses}
 
@@ -34,7 +34,7 @@ AreMetRests refuses a b met =
 -- what may be found one step below: a branch in form that is not empty
 abbrev pub IsBranch : {R : Type 0} → (R → Type 0) → Option (Tree R) → Type 0
 IsBranch P None = Unit {0}
-IsBranch P (Some tree) = IsTaken tree × IsTree P tree
+IsBranch P (Some tree) = IsTreeTaken tree × IsTree P tree
 
 -- the branch one step below where elements from an index on are all alike
 abbrev pub found_to : {R : Type 0} → ℕ → Option (Tree R) → paths.Step → Children R → Option (Tree R)
@@ -42,21 +42,21 @@ found_to n rest (label text) children = find (label text) children
 found_to n rest (index i) children = if nat_lt i n then find (index i) children else rest
 
 -- the element before an index is as the rest
-abbrev pub Repeats : {R : Type 0} → ℕ → Tree R → Children R → Type 0
-Repeats zero rest children = ⊥
-Repeats (suc i) rest children = find (index i) children ≡ Some rest
+abbrev pub RepeatsRest : {R : Type 0} → ℕ → Tree R → Children R → Type 0
+RepeatsRest zero rest children = ⊥
+RepeatsRest (suc i) rest children = find (index i) children ≡ Some rest
 
 -- elements before an index, in form
 pub record AreElements {R : Type 0} (P : R → Type 0) (n : ℕ) (elements : Children R) : Type 0 where
   pub form : AreBranches P elements
-  pub within : AreWithin n elements
+  pub within : AreWithinDepth n elements
   pub indexes : AreFrom 0 elements
 
 -- the last run begins at an index, ends before another one, and is as the rest
-pub record IsLastRun {R Q : Type 0} (runs : List (Run R Q)) (from : ℕ) (rest : Tree R)
+pub record IsLastRun {R Q : Type 0} (runs : List (ElementRun R Q)) (from : ℕ) (rest : Tree R)
     (first : ℕ) : Type 0 where
-  pub others : List (Run R Q)
-  pub last : Run R Q
+  pub others : List (ElementRun R Q)
+  pub last : ElementRun R Q
   pub is : runs ≡ others ++ last ∷ []
   pub begins : first ≡ last.first
   pub ends : last_of last.first last.more + 1 ≡ from
@@ -64,11 +64,11 @@ pub record IsLastRun {R Q : Type 0} (runs : List (Run R Q)) (from : ℕ) (rest :
 
 -- The run is that of all elements from one index to another, each of which is this tree.
 pub record IsRunOf {R Q : Type 0} (P : R → Type 0) (first last : ℕ) (tree : Tree R)
-    (run : Run R Q) : Type 0 where
+    (run : ElementRun R Q) : Type 0 where
   pub begins : run.first ≡ first
   pub ends : run.more + first ≡ last
   pub is : run.node ≡ tree
-  pub taken : IsTaken tree
+  pub taken : IsTreeTaken tree
   pub form : IsTree P tree
 
 -- A list that goes on so is in form, and each element is what it was: that of the list before an
@@ -102,11 +102,11 @@ pub record AreElementsMet {R Q S : Type 0} (refuses : R → S → Type 0) (P : R
 -- so many of the branches are fields, and the others are elements
 pub record AreFields {R : Type 0} (children : List (Child R)) (count : ℕ) : Type 0 where
   pub in_range : count ≤ length children
-  pub within : AreWithin 0 (branches (take count children))
+  pub within : AreWithinDepth 0 (branches (take count children))
   pub same : (text : List ℕ) → find (label text) (branches (take count children))
       ≡ find (label text) (branches children)
 
 -- a tree further from the root, at the end of a path
-abbrev pub along : {R : Type 0} → Path → Tree R → Tree R
-along [] tree = tree
-along (step ∷ path) tree = node None (child step (along path tree) none) no_rest
+abbrev pub tree_along : {R : Type 0} → Path → Tree R → Tree R
+tree_along [] tree = tree
+tree_along (step ∷ path) tree = node None (child step (tree_along path tree) none) no_rest

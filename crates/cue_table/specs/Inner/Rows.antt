@@ -3,5 +3,5 @@ use Rattle.std.specs.Prelude.{◌++◌}
 use Rattle.cue_table.specs.Slots.{Place}
 
 -- a row, its place as it is beyond another place
-abbrev pub beyond : {R : Type 0} → Place → Place × R → Place × R
-beyond place row = (place ++ row.0, row.1)
+abbrev pub row_beyond : {R : Type 0} → Place → Place × R → Place × R
+row_beyond place row = (place ++ row.0, row.1)

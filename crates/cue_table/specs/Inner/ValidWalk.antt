@@ -1,7 +1,7 @@
 -- The rules of valid tables, as a walk from a place to those below it looks at them.
 use Rattle.std.specs.Prelude.{◌≡◌, ◌≤◌, ◌⊎◌, Option, Some, None}
 use Rattle.cue_lattice.specs.Path.{Step, label, index}
-use Rattle.cue_row.specs.Kinds.{IsKind}
+use Rattle.cue_row.specs.Kinds.{IsRowKind}
 use Rattle.cue_row.specs.ValidRow.{IsWordStep, IsValidRow}
 use Rattle.cue_row.specs.declared.parts.RowParts.{RowParts as Row}
 use Rattle.cue_row.specs.declared.kind.RowKind.TheVariants as kinds
@@ -28,7 +28,7 @@ HasChild parent step (Some row) = MayStand parent step row
 
 -- the row may be that of an element below the parent, whatever its index is
 pub record MayBeElement (parent : Row) (row : Row) : Type 0 where
-  pub holds : IsKind parent kinds.List ⊎ IsKind parent kinds.Nothing
+  pub holds : IsRowKind parent kinds.List ⊎ IsRowKind parent kinds.Nothing
   pub level : row.level ≡ Optional
 
 abbrev pub HasElement : Row → Option Row → Type 0

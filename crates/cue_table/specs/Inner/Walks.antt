@@ -8,7 +8,7 @@ use Rattle.std.specs.declared.cmp.Ordering.TheVariants.{Less, Equal, Greater}
 use Rattle.std.proofs.Common.{arith, subst}
 use Rattle.cue_lattice.specs.Path.{Step, label, index, step_cmp}
 use Rattle.cue_table.specs.Tree.{Tree, node, Children, none, child, Rest, no_rest, onward, below}
-use Rattle.cue_table.specs.Tree.{rest_of, if_equal, find, find_with, step_into, rest_tree}
+use Rattle.cue_table.specs.Tree.{rest_below, if_equal, find, find_with, step_into, rest_at}
 use Rattle.cue_table.specs.Tree.{children_of, labels_of, items_of}
 use Rattle.cue_table.specs.Size.{tree_size, children_size, rest_size}
 
@@ -82,7 +82,7 @@ module _ {R : Type 0} where
       (λ f. smaller_in n step children tree (omega arith) f) e
 
   -- and the rest
-  pub rest_smaller : (tree branch : Tree R) → rest_tree (rest_of tree) ≡ Some branch
+  pub rest_smaller : (tree branch : Tree R) → rest_at (rest_below tree) ≡ Some branch
       → tree_size branch < tree_size tree
   rest_smaller (node row children no_rest) branch e = cc
   rest_smaller (node row children (onward n tree)) branch e =

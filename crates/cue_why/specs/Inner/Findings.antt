@@ -7,10 +7,10 @@ use Rattle.cue_report.specs.Gaps.{IsMissing}
 use Rattle.cue_report.specs.Inner.GapSearch.{IsOpenAt}
 use Rattle.cue_report.specs.Inner.Search.{lacks_value}
 use Rattle.cue_row.specs.Levels.{level_of}
-use Rattle.cue_row.specs.Row.{IsRow, RowRefuses}
+use Rattle.cue_row.specs.Row.{IsRow, RowRefusesQuestion}
 use Rattle.cue_row.specs.declared.level.Level.TheVariants.{Optional, Required}
 use Rattle.cue_row.specs.declared.parts.RowParts.{RowParts as Row}
-use Rattle.cue_why.specs.Finding.{RefusesValues, HasNoDefault, IsClear}
+use Rattle.cue_why.specs.Finding.{RefusesValues, HasNoDefault, IsWithoutFinding}
 use Rattle.cue_why.specs.Reported.{IsReported}
 use Rattle.cue_why.specs.declared.finding.Finding.{Finding}
 
@@ -20,9 +20,9 @@ pub record IsFinding (view : Refusals) (path : Path) (finding : Finding) : Type 
   pub no_value : IsTrue finding.no_value ↔ HasNoValue view path
   pub not_allowed : IsTrue finding.not_allowed ↔ IsNotAllowed view path
   pub levels : (k : ℕ) → k < level_of finding.level
-      ↔ (IsClear view path × view path (level_at_most k))
+      ↔ (IsWithoutFinding view path × view path (level_at_most k))
   pub no_default : IsTrue finding.no_default
-      ↔ (IsClear view path × (¬ IsMissing view path) × HasNoDefault view path)
+      ↔ (IsWithoutFinding view path × (¬ IsMissing view path) × HasNoDefault view path)
 
 -- it is refused along the path
 pub record Meets (finding : Finding) (own : Refusals) (path : Path) : Type 0 where
@@ -34,7 +34,7 @@ pub record Meets (finding : Finding) (own : Refusals) (path : Path) : Type 0 whe
 
 -- what a row refuses, at whatever path
 abbrev pub at_row : Row → Refusals
-at_row row path question = RowRefuses row question
+at_row row path question = RowRefusesQuestion row question
 
 -- a row refuses at its place what has to be refused there
 pub record IsMetAt (finding : Finding) (row : Row) : Type 0 where

@@ -4,7 +4,7 @@ use Rattle.cue_lattice.specs.OneOf.{OneOf}
 use Rattle.cue_lattice.specs.Path.{Step, label, index, Path}
 use Rattle.cue_lattice.specs.Question.{Question}
 use Rattle.cue_policies.specs.Patterns.{Concerns}
-use Rattle.cue_policies.specs.View.{IsAlong, EndsInPattern, IsLevel}
+use Rattle.cue_policies.specs.View.{IsAlong, EndsInPattern, IsLevelInView}
 use Rattle.cue_policies.specs.declared.kind.LayerKind.{LayerKind}
 use Rattle.cue_row.specs.Made.{at_level}
 use Rattle.cue_row.specs.Row as rows
@@ -39,10 +39,10 @@ abbrev pub IsBelow : LayerKind → Step → WrittenPart → WrittenPart → Type
 IsBelow kind step part next = (own : Step) × IsStepAlong kind own step × IsOwnBelow own part next
 
 -- what a part refuses at its place, as it counts in the view
-abbrev pub Holds : LayerKind → WrittenPart → Question → Type 0
-Holds kind part question =
-    RowRefuses rows.RowRefuses (row_of part.branch) question
-    × ¬ (EndsInPattern kind part.written × IsLevel question)
+abbrev pub HoldsPart : LayerKind → WrittenPart → Question → Type 0
+HoldsPart kind part question =
+    RowRefuses rows.RowRefusesQuestion (row_of part.branch) question
+    × ¬ (EndsInPattern kind part.written × IsLevelInView question)
 
 -- a row as it counts there
 abbrev pub IsHeldRow : LayerKind → Path → Row → Row → Type 0
@@ -53,5 +53,5 @@ IsHeldRow kind written row held =
 -- a row refuses what it did, and what a part does
 abbrev pub GainsPart : LayerKind → Row → WrittenPart → Row → Type 0
 GainsPart kind old part new =
-    (question : Question) → rows.RowRefuses new question
-    ↔ (rows.RowRefuses old question ⊎ Holds kind part question)
+    (question : Question) → rows.RowRefusesQuestion new question
+    ↔ (rows.RowRefusesQuestion old question ⊎ HoldsPart kind part question)

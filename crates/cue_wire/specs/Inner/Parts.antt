@@ -5,7 +5,7 @@ use Rattle.std.specs.Io.KnownBytes.{Appends}
 use Rattle.cue_lattice.specs.declared.refusal.Kind.{Kind}
 use Rattle.cue_lattice.specs.declared.refusal.Kind.TheVariants as kinds
 use Rattle.cue_replica.specs.Language.{Table}
-use Rattle.cue_wire.specs.Connections.{IsStop}
+use Rattle.cue_wire.specs.Connections.{IsServingStop}
 use Rattle.cue_wire.specs.Frames.{IsUnfinished}
 use Rattle.cue_wire.specs.Sessions.{Standing, reading, Served}
 
@@ -25,10 +25,10 @@ abbrev pub RepliesAt :
 RepliesAt (Ok u) rest unwritten session left failed failed' =
     (session ≡ reading rest) × IsUnfinished rest × (unwritten ≡ [])
 RepliesAt (Err kind) rest unwritten session left failed failed' =
-    IsStop kind rest unwritten (IsWriteFault kind left failed failed')
+    IsServingStop kind rest unwritten (IsWriteFault kind left failed failed')
 
 -- The frames of the stream up to a rest were served, and of their replies these were written.
-pub record Replied (result : Result (Unit {0}) Kind) (stream : List ℕ) (session : Standing)
+pub record RepliesWritten (result : Result (Unit {0}) Kind) (stream : List ℕ) (session : Standing)
     (before after : Table) (taken taken' : Option (List ℕ)) (left left' failed failed' : ℕ)
     : Type 0 where
   pub rest : List ℕ
@@ -52,9 +52,9 @@ pub record IsPartServed (stream : List ℕ) (session : Standing) (before now : T
   pub moves : left ≤ left' + length written
 
 -- So much of the stream was served, or serving stopped.
-abbrev pub GoesOn : Result (Unit {0}) Kind → List ℕ → Standing → Table → Table → List ℕ
+abbrev pub ServesOrStops : Result (Unit {0}) Kind → List ℕ → Standing → Table → Table → List ℕ
     → Option (List ℕ) → Option (List ℕ) → ℕ → ℕ → ℕ → ℕ → Type 0
-GoesOn (Ok u) stream session before now pending taken taken' left left' failed failed' =
+ServesOrStops (Ok u) stream session before now pending taken taken' left left' failed failed' =
     IsPartServed stream session before now pending taken taken' left left'
-GoesOn (Err kind) stream session before now pending taken taken' left left' failed failed' =
-    Replied (Err kind) stream session before now taken taken' left left' failed failed'
+ServesOrStops (Err kind) stream session before now pending taken taken' left left' failed failed' =
+    RepliesWritten (Err kind) stream session before now taken taken' left left' failed failed'

@@ -20,5 +20,5 @@ pub record Gains (stream rest : List ℕ) (old new : List (Vec ℕ Global)) : Ty
   pub added : new ≡ old ++ more
 
 -- bytes were added behind those that were there, or none
-abbrev pub Extends : List ℕ → List ℕ → Type 0
-Extends old new = (more : List ℕ) × (new ≡ old ++ more)
+abbrev pub AppendsBytes : List ℕ → List ℕ → Type 0
+AppendsBytes old new = (more : List ℕ) × (new ≡ old ++ more)

@@ -5,7 +5,7 @@ use Rattle.cue_table.specs.Valid.{IsValidTable}
 use Rattle.cue_table.proofs.ValidWalks.{empty_valid}
 use Rattle.cue_codec.specs.Decoding.{AreReadRows, NoRows}
 use Rattle.cue_codec.specs.Inner.Drafting.{RowsRead}
-use Rattle.cue_codec.specs.Reading.{IsRefused}
+use Rattle.cue_codec.specs.Reading.{IsReadRefused}
 use Rattle.cue_codec.specs.State.{IsTableBytes}
 use Rattle.cue_codec.proofs.ReadStates.{undecoded_rows, undecoded_table, decoded_bytes, opening_begins, opening_bytes, opening_rows}
 use Rattle.cue_codec.proofs.decoding.decode.Goals as goal
@@ -23,7 +23,7 @@ returns-in_err-table-clause-refused c =
     let rest = c.in_ok-version.rest.now in
     let kind = c.in_err-table.field-0.0 in
     let fits : length c.args.bytes.now < 2 ^ 64 = omega arith in
-    let none = subst (λ (r : RowsRead). IsRefused kind (NoRows r.version r.count (r.bytes ++ rest))) c.new-2.ensures c.in_err-table.ensures.refused in
+    let none = subst (λ (r : RowsRead). IsReadRefused kind (NoRows r.version r.count (r.bytes ++ rest))) c.new-2.ensures c.in_err-table.ensures.refused in
     rw (p.1, p.2) (undecoded_rows c.in_ok-version.version c.args.bytes.now rest c.in_ok-version.count kind c.in_ok-version.ensures.ok c.in_ok-version.ensures.small fits none)
 
 pub returns-then-not-is_valid-clause-refused : goal.returns-then-not-is_valid-clause-refused

@@ -12,12 +12,12 @@ use Rattle.cue_codec.proofs.paths.each_step.Goals as goal
 pub loop-alloc-init : goal.loop-alloc-init
 loop-alloc-init c =
     let items = c.args.before.items in
-    let len = c.shared-len.result.0 in
+    let len = c.skip_shared-len.result.0 in
     rw c.truncate.ensures.items (record {
-      few = omega (arith, length-take len items, c.shared-len.ensures.few.1);
+      few = omega (arith, length-take len items, c.skip_shared-len.ensures.few.1);
       each = steps_front c.args.version items len c.requires.steps;
       numbers = known_front c.args.known.now items len c.requires.known;
-      parts = rw (← c.as_slice.ensures.value) (c.shared-len.ensures.parts c.args.version);
+      parts = rw (← c.as_slice.ensures.value) (c.skip_shared-len.ensures.parts c.args.version);
     })
 
 pub loop-alloc-preserved : goal.loop-alloc-preserved

@@ -1,7 +1,7 @@
 use Rattle.std.proofs.Common.{◌++◌, arith, ap}
 use Rattle.std.proofs.lemmas.Result.{err_from_is_err_and}
 use Rattle.std.specs.List.{flat_map}
-use Rattle.cue_codec.specs.Entry.{told_place}
+use Rattle.cue_codec.specs.Entry.{path_of_place}
 use Rattle.cue_codec.specs.Inner.Reading.{AreSo}
 use Rattle.cue_codec.specs.Parts.{step_bytes}
 use Rattle.cue_codec.specs.StateRow.{IsStateStep}
@@ -28,4 +28,4 @@ returns-then-asked-gt-STEP_LIMIT-clause-refused c = λ more.
 
 pub returns-clause-ok : goal.returns-clause-ok
 returns-clause-ok c =
-    path_found c.args.version c.args.bytes.now c.in-Some.rest.now c.in_ok-slots.rest.now c.in-Some.count.now c.in_ok-slots.slots.items (told_place c.in-Some-new.place) c.in-Some.ensures.cases.0 c.in_ok-slots.ensures.ok (ap told_place c.in-Some-new.ensures.some) (omega (arith, c.if-asked-gt-STEP_LIMIT.false))
+    path_found c.args.version c.args.bytes.now c.in-Some.rest.now c.in_ok-slots.rest.now c.in-Some.count.now c.in_ok-slots.slots.items (path_of_place c.in-Some-new.place) c.in-Some.ensures.cases.0 c.in_ok-slots.ensures.ok (ap path_of_place c.in-Some-new.ensures.some) (omega (arith, c.if-asked-gt-STEP_LIMIT.false))

@@ -3,7 +3,7 @@ use Rattle.std.proofs.lemmas.Result.{err_from_is_err_and}
 use Rattle.cue_codec.specs.declared.version.Version.{Version}
 use Rattle.cue_codec.specs.Entry.{to_rest}
 use Rattle.cue_codec.specs.Parts.{step_bytes}
-use Rattle.cue_codec.specs.Reading.{Begins, BeginsNone}
+use Rattle.cue_codec.specs.Reading.{ReadsItem, ReadsNoItem}
 use Rattle.cue_codec.specs.StateRow.{IsStateStep}
 use Rattle.cue_codec.proofs.Codes.{tag_more, unread_so}
 use Rattle.cue_codec.proofs.Numbers.{IsBytes, IsBytes-rest}
@@ -37,8 +37,8 @@ returns-in-3-to-255-clause-refused c = λ more.
 
 pub returns-in-First-clause-refused : goal.returns-in-First-clause-refused
 returns-in-First-clause-refused c = λ more.
-    subst (λ (v : Version). BeginsNone (IsStateStep v) (step_bytes v) (c.args.bytes.now ++ more)) (sym c.in-First.is) (step_untold (c.args.bytes.now ++ more) (c.in-Some.rest.now ++ more) c.in-Some.tag.now (tag_more c.args.bytes.now c.in-Some.rest.now c.in-Some.tag.now more c.in-Some.ensures.cases.0) c.in-2.is)
+    subst (λ (v : Version). ReadsNoItem (IsStateStep v) (step_bytes v) (c.args.bytes.now ++ more)) (sym c.in-First.is) (step_untold (c.args.bytes.now ++ more) (c.in-Some.rest.now ++ more) c.in-Some.tag.now (tag_more c.args.bytes.now c.in-Some.rest.now c.in-Some.tag.now more c.in-Some.ensures.cases.0) c.in-2.is)
 
 pub returns-in-Second-clause-ok : goal.returns-in-Second-clause-ok
 returns-in-Second-clause-ok c =
-    subst (λ (v : Version). Begins (IsStateStep v) (step_bytes v) to_rest c.args.bytes.now c.in-Some.rest.now) (sym c.in-Second.is) (rest_found c.args.bytes.now c.in-Some.rest.now c.in-Some.tag.now c.in-Some.ensures.cases.0 c.in-2.is)
+    subst (λ (v : Version). ReadsItem (IsStateStep v) (step_bytes v) to_rest c.args.bytes.now c.in-Some.rest.now) (sym c.in-Second.is) (rest_found c.args.bytes.now c.in-Some.rest.now c.in-Some.tag.now c.in-Some.ensures.cases.0 c.in-2.is)

@@ -2,7 +2,7 @@ use Rattle.std.proofs.Common.{◌++◌, refl, sym, ap, ◌∙◌}
 use Rattle.std.proofs.lemmas.Result.{err_from_is_err_and}
 use Rattle.cue_codec.specs.Parts.{set_bytes}
 use Rattle.cue_codec.specs.StateRow.{IsStateSet}
-use Rattle.cue_codec.specs.RowBytes.{is_empty_set}
+use Rattle.cue_codec.specs.RowBytes.{is_no_scalar}
 use Rattle.cue_codec.proofs.Codes.{begins_more, unread_so}
 use Rattle.cue_codec.proofs.RowParts.{scalars_first, scalars_none, scalars_second, scalars_found}
 use Rattle.cue_codec.proofs.rows.scalar_at.Goals as goal
@@ -14,7 +14,7 @@ returns-in_err-value-clause-refused c =
 
 pub returns-then-is_empty-clause-refused : goal.returns-then-is_empty-clause-refused
 returns-then-is_empty-clause-refused c = λ more.
-    scalars_none (c.args.bytes.now ++ more) (c.in_ok-value.middle.now ++ more) c.in_ok-value.value (begins_more IsStateSet set_bytes c.in_ok-value.value c.args.bytes.now c.in_ok-value.middle.now more c.in_ok-value.ensures.ok) (ap is_empty_set (sym c.of.ensures) ∙ sym c.is_empty.ensures ∙ c.if-is_empty.true)
+    scalars_none (c.args.bytes.now ++ more) (c.in_ok-value.middle.now ++ more) c.in_ok-value.value (begins_more IsStateSet set_bytes c.in_ok-value.value c.args.bytes.now c.in_ok-value.middle.now more c.in_ok-value.ensures.ok) (ap is_no_scalar (sym c.of.ensures) ∙ sym c.is_empty.ensures ∙ c.if-is_empty.true)
 
 pub returns-in_err-usual-clause-refused : goal.returns-in_err-usual-clause-refused
 returns-in_err-usual-clause-refused c =
@@ -27,7 +27,7 @@ returns-clause-ok c = record {
   item = (c.in_ok-value.value, c.in_ok-usual.usual);
   says = c.in-Ok-of_scalars.ensures;
   fixed_is = refl;
-  begins = scalars_found c.args.bytes.now c.in_ok-value.middle.now c.in_ok-usual.rest.now c.in_ok-value.value c.in_ok-usual.usual c.in_ok-value.ensures.ok (ap is_empty_set (sym c.of.ensures) ∙ sym c.is_empty.ensures ∙ c.if-is_empty.false) c.in_ok-usual.ensures.ok;
+  begins = scalars_found c.args.bytes.now c.in_ok-value.middle.now c.in_ok-usual.rest.now c.in_ok-value.value c.in_ok-usual.usual c.in_ok-value.ensures.ok (ap is_no_scalar (sym c.of.ensures) ∙ sym c.is_empty.ensures ∙ c.if-is_empty.false) c.in_ok-usual.ensures.ok;
 }
 
 pub returns-in-Some-after_again-clause-ok : goal.returns-in-Some-after_again-clause-ok
@@ -35,5 +35,5 @@ returns-in-Some-after_again-clause-ok c = record {
   item = (c.in_ok-value.value, c.in_ok-value.value);
   says = c.in-Ok-of_all_usual.ensures;
   fixed_is = refl;
-  begins = scalars_found c.args.bytes.now c.in_ok-value.middle.now c.in-Some-after_again.rest.now c.in_ok-value.value c.in_ok-value.value c.in_ok-value.ensures.ok (ap is_empty_set (sym c.of.ensures) ∙ sym c.is_empty.ensures ∙ c.if-is_empty.false) (c.in-Some-after_again.ensures c.in_ok-value.value c.in_ok-value.ensures.ok);
+  begins = scalars_found c.args.bytes.now c.in_ok-value.middle.now c.in-Some-after_again.rest.now c.in_ok-value.value c.in_ok-value.value c.in_ok-value.ensures.ok (ap is_no_scalar (sym c.of.ensures) ∙ sym c.is_empty.ensures ∙ c.if-is_empty.false) (c.in-Some-after_again.ensures c.in_ok-value.value c.in_ok-value.ensures.ok);
 }

@@ -2,7 +2,7 @@ use Rattle.std.proofs.Common.{◌++◌, subst}
 use Rattle.std.proofs.lemmas.Result.{err_from_is_err_and}
 use Rattle.cue_sets.specs.Pieces.{IsCanonical}
 use Rattle.cue_codec.specs.Parts.{counted_bytes, piece_bytes}
-use Rattle.cue_codec.specs.Reading.{AreCounted, IsPiece}
+use Rattle.cue_codec.specs.Reading.{AreCounted, IsPieceBytes}
 use Rattle.cue_codec.proofs.Codes.{begins_more, unread_so}
 use Rattle.cue_codec.proofs.SetLaws.{integers_none, integers_other, integers_found}
 use Rattle.cue_codec.proofs.sets.int_set_at.Goals as goal
@@ -14,7 +14,7 @@ returns-in_err-pieces-clause-refused c =
 
 pub returns-in_default-clause-refused : goal.returns-in_default-clause-refused
 returns-in_default-clause-refused c = λ more.
-    integers_other c.in_ok-pieces.pieces.items (c.args.bytes.now ++ more) (c.in_ok-pieces.rest.now ++ more) (begins_more (AreCounted IsPiece) (counted_bytes piece_bytes) c.in_ok-pieces.pieces.items c.args.bytes.now c.in_ok-pieces.rest.now more c.in_ok-pieces.ensures.ok) c.in_default.ensures.none
+    integers_other c.in_ok-pieces.pieces.items (c.args.bytes.now ++ more) (c.in_ok-pieces.rest.now ++ more) (begins_more (AreCounted IsPieceBytes) (counted_bytes piece_bytes) c.in_ok-pieces.pieces.items c.args.bytes.now c.in_ok-pieces.rest.now more c.in_ok-pieces.ensures.ok) c.in_default.ensures.none
 
 pub returns-clause-ok : goal.returns-clause-ok
 returns-clause-ok c =

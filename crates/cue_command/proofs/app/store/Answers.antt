@@ -11,7 +11,7 @@ added old sub new a b o s h = (h.shape s.1 ∙ ap₂ with_subcommand o.0 (ap (λ
 
 pub returns : goal.returns
 returns c =
-    let one = added c.bare.result c.in_ok-export.export c.in_ok-subcommand.field-0 _ _ c.bare.ensures c.in_ok-export.ensures c.in_ok-subcommand.ensures in
+    let one = added c.base_app.result c.in_ok-export.export c.in_ok-subcommand.field-0 _ _ c.base_app.ensures c.in_ok-export.ensures c.in_ok-subcommand.ensures in
     let two = added _ c.in_ok-print.print c.in_ok-subcommand-2.field-0 _ _ one c.in_ok-print.ensures c.in_ok-subcommand-2.ensures in
     let three = added _ c.in_ok-report.report c.in_ok-subcommand-3.field-0 _ _ two c.in_ok-report.ensures c.in_ok-subcommand-3.ensures in
     let four = added _ c.in_ok-state.state c.in_ok-asking.asking _ _ three c.in_ok-state.ensures c.in_ok-asking.ensures in

@@ -6,8 +6,8 @@ use Rattle.cue_command.proofs.Found.{all_by_rows}
 use Rattle.cue_command.proofs.command.files.Goals as goal
 
 pub returns-in-Some : goal.returns-in-Some
-returns-in-Some c = IfOk-weaker c.listed.result _ _
-    (λ v h. ap texts h ∙ ap (λ (o : Option (List Text)). unwrap_or o []) (c.in-Some.ensures ∙ all_by_rows (found_of c.args.found.now) (codes "FILE"))) c.listed.ensures
+returns-in-Some c = IfOk-weaker c.copy_words.result _ _
+    (λ v h. ap texts h ∙ ap (λ (o : Option (List Text)). unwrap_or o []) (c.in-Some.ensures ∙ all_by_rows (found_of c.args.found.now) (codes "FILE"))) c.copy_words.ensures
 
 pub returns-in-None : goal.returns-in-None
 returns-in-None c =

@@ -7,6 +7,6 @@ use Rattle.cue_embed.proofs.site.new_state.Goals as goal
 
 pub returns : goal.returns
 returns c =
-    MatchResult-weaker c.answered-2.result c.answered-2.ensures
+    MatchResult-weaker c.answer_question-2.result c.answer_question-2.ensures
     (λ answer tells. (c.new.result, subst (λ (t : Table). IsOfPieces t []) (sym c.new.ensures) of_no_piece, tells))
     (λ stop memory. memory)

@@ -2,7 +2,7 @@ use Rattle.std.proofs.Common.{◌≡◌, ◌⊎◌, ℕ, List, subst, refl, inr}
 use Rattle.cue_lattice.specs.Refusal.{memory}
 use Rattle.cue_lattice.specs.World.{text}
 use Rattle.cue_replica.specs.Language.{language}
-use Rattle.cue_replica.specs.Replica.{Adds}
+use Rattle.cue_replica.specs.Replica.{AddsRefusals}
 use Rattle.cue_replica.proofs.Accepted.{of_one_piece_more}
 use Rattle.cue_embed.proofs.site.submit.Goals as goal
 
@@ -10,7 +10,7 @@ pub returns-in-Ok-submit-clause-accepts : goal.returns-in-Ok-submit-clause-accep
 returns-in-Ok-submit-clause-accepts c =
     λ pieces is. of_one_piece_more c.args.site.now c.submit.new.self pieces (text c.args.bytes.now) is
     (subst language.IsLegal c.in-Ok.ensures.0 c.in-Ok-submit.ensures.legal)
-    (subst (λ (t : List ℕ). Adds c.args.site.now (language.text_refuses t) c.submit.new.self) c.in-Ok.ensures.0 c.in-Ok-submit.ensures.ok)
+    (subst (λ (t : List ℕ). AddsRefusals c.args.site.now (language.text_refuses t) c.submit.new.self) c.in-Ok.ensures.0 c.in-Ok-submit.ensures.ok)
     c.in-Ok-submit.ensures.valid
 
 pub returns-in-Err-submit-clause-stop : goal.returns-in-Err-submit-clause-stop

@@ -4,7 +4,7 @@ use Rattle.cue_syntax.specs.Syntax.{entries}
 use Rattle.cue_scope.specs.Core.{is_scalar, struct}
 use Rattle.cue_scope.specs.Definitions.{definitions}
 use Rattle.cue_scope.specs.Files.{entries_of}
-use Rattle.cue_scope.specs.Kept.{all_of}
+use Rattle.cue_scope.specs.Kept.{nodes_kept}
 use Rattle.cue_scope.specs.Listed.{definition_of}
 use Rattle.cue_scope.specs.Uses.{uses, uses_of_fields}
 use Rattle.cue_scope.proofs.Numbers.{listed_at, length_listed}
@@ -112,12 +112,12 @@ literal-requires c =
     subst (λ xs. AreReadyFields c.tables-tables.result (entries xs)) (sym c.declarations-declarations.ensures.declarations)
     (text_ready es order c.loop-number.number-index c.loop-number.found c.tables-tables.result c.declarations-declarations.ensures.legal c.args.resolved.now.well_formed.right c.order-order.ensures
     (let end = c.loop-number-test.false in omega arith) c.loop-number.invariant
-    (ap all_of c.tables-tables.ensures.definitions ∙ all) c.tables-tables.ensures.pairs c.tables-tables.ensures.tables)
+    (ap nodes_kept c.tables-tables.ensures.definitions ∙ all) c.tables-tables.ensures.pairs c.tables-tables.ensures.tables)
 
 pub returns : goal.returns
 returns c =
     let es = entries_of c.args.resolved.now in
     let all = c.definitions-definitions.ensures.all in
     evaluated_result c.literal.result es c.tables-tables.result c.declarations-declarations.ensures.legal c.args.resolved.now.well_formed.words
-    (ap all_of c.tables-tables.ensures.definitions ∙ all) c.literal.ensures.form
+    (ap nodes_kept c.tables-tables.ensures.definitions ∙ all) c.literal.ensures.form
     (subst (λ xs. IfOk c.literal.result (HasAnswersOf (struct (members_of c.tables-tables.result (entries xs))))) c.declarations-declarations.ensures.declarations c.literal.ensures.answers)

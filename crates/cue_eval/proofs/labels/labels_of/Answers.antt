@@ -9,5 +9,5 @@ pub returns : goal.returns
 returns c = λ ds meaning.
     let ms = meant_members ds meaning (entries c.args.declarations.now) in
     let listed = subst (λ found. IfSome found (λ set. set ≡ Some c.into_texts-labels.result.1.items)) c.unwrap.ensures c.listing.ensures.some in
-    labels_left_out ms c.in_ok-declared.field-0 c.unwrap.result (sym (c.has_ellipsis.ensures ds meaning) ∙ c.if-has_ellipsis.false) (c.in_ok-declared.ensures ds meaning)
+    labels_left_out ms c.in_ok-collect_labels.field-0 c.unwrap.result (sym (c.has_ellipsis.ensures ds meaning) ∙ c.if-has_ellipsis.false) (c.in_ok-collect_labels.ensures ds meaning)
     (listed ∙ ap Some c.into_texts-labels.ensures.texts)

@@ -1,7 +1,7 @@
 use Rattle.std.specs.BinaryHeap.{IsHeap, heap_items}
 use Rattle.std.specs.Ordering.{nat_cmp}
-use Rattle.cue_table.specs.Form.{AreWithin}
-use Rattle.cue_table.specs.Spans.{spread}
+use Rattle.cue_table.specs.Form.{AreWithinDepth}
+use Rattle.cue_table.specs.Spans.{branches_of_spans}
 use Rattle.cue_table.specs.Tree.{below}
 use Rattle.cue_eval.specs.Inner.Adding.{AreFew, AreKept}
 use Rattle.cue_eval.proofs.Bounds.{AreLeft}
@@ -12,6 +12,6 @@ abbrev pub invariant-loop-span : goal.invariant-loop-span
 invariant-loop-span g l =
     IsHeap nat_cmp (heap_items l.bounds)
     × AreKept (heap_items l.fn.bounds) (heap_items l.bounds)
-    × AreLeft (below l.branch) (spread l.span-iterator) (heap_items l.bounds)
+    × AreLeft (below l.branch) (branches_of_spans l.span-iterator) (heap_items l.bounds)
     × AreFew (heap_items l.bounds)
-    × AreWithin l.fixed (spread l.span-iterator)
+    × AreWithinDepth l.fixed (branches_of_spans l.span-iterator)

@@ -35,5 +35,5 @@ returns-in_ok-pop-in-Equal-2 c =
     let P : List Layer → Type 0 = λ ls. IsLastOrder ls c.as_slice-2.result.now Equal in
     let Q : List Layer → Type 0 = λ ls. IsLastOrder own ls Equal in
     let last = subst Q c.as_slice-2.ensures.value (subst P c.as_slice.ensures.value c.in-Equal.ensures) in
-    takes_equal own others c.pop-in-Equal.new.self.items c.pop-in-Equal-2.new.self.items c.in_ok-pop-in-Equal.field-0 c.in_ok-pop-in-Equal-2.field-0 c.greater.result
-    c.requires.own c.requires.others c.requires.ties last c.in_ok-pop-in-Equal.ensures.items c.in_ok-pop-in-Equal-2.ensures.items c.greater.ensures
+    takes_equal own others c.pop-in-Equal.new.self.items c.pop-in-Equal-2.new.self.items c.in_ok-pop-in-Equal.field-0 c.in_ok-pop-in-Equal-2.field-0 c.later_revision.result
+    c.requires.own c.requires.others c.requires.ties last c.in_ok-pop-in-Equal.ensures.items c.in_ok-pop-in-Equal-2.ensures.items c.later_revision.ensures

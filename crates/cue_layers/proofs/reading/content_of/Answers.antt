@@ -21,4 +21,4 @@ returns-in-Ok-clause-ok c =
 pub returns-in-Err-clause-refused : goal.returns-in-Err-clause-refused
 returns-in-Err-clause-refused c =
     let held : length c.args.state.now < 2 ^ 64 = omega arith in
-    refused_for c.args.state.now c.in-Err.why c.refused.result held (⊎_elim (λ m. inl m.0) (λ f. inr f) c.in-Err.ensures.refused) c.refused.ensures.memory c.refused.ensures.other
+    refused_for c.args.state.now c.in-Err.why c.layer_refusal.result held (⊎_elim (λ m. inl m.0) (λ f. inr f) c.in-Err.ensures.refused) c.layer_refusal.ensures.memory c.layer_refusal.ensures.other

@@ -7,11 +7,11 @@ returns-in-Ok-clause-found c =
     found_is _ (map string_bytes c.args.words.now) c.in-Ok.matches c.in_ok-layers.ensures.0 c.in-Ok.ensures.kinds c.in-Ok.ensures.matches
 
 pub returns-in-Err-clause-fault : goal.returns-in-Err-clause-fault
-returns-in-Err-clause-fault c = elim c.refused.ensures.fault [
+returns-in-Err-clause-fault c = elim c.usage_fault.ensures.fault [
   | inl usage ↦ inl (
     usage,
     refused_is _ (map string_bytes c.args.words.now) c.in-Err.error c.in_ok-layers.ensures.0 c.in-Err.ensures.kinds
-        (λ memory. c.refused.ensures.usage usage (c.kind.ensures ∙ memory)),
+        (λ memory. c.usage_fault.ensures.usage usage (c.kind.ensures ∙ memory)),
   )
   | inr memory ↦ inr memory
 ]

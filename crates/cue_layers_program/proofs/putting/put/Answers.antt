@@ -1,6 +1,6 @@
 use Rattle.std.proofs.Common.{inl, inr, ⊎_elim, ap, ◌∙◌}
 use Rattle.cue_layers.specs.declared.LayersRefusal.{LayersRefusal}
-use Rattle.cue_layers_program.specs.Stops.{IsRefusal}
+use Rattle.cue_layers_program.specs.Stops.{IsRefusalLayersStop}
 use Rattle.cue_layers_program.specs.declared.stop.LayersStop.TheVariants.{Refused}
 use Rattle.cue_layers_program.proofs.Results.{err_as, err_on}
 use Rattle.cue_layers_program.proofs.putting.put.Goals as goal
@@ -15,7 +15,7 @@ returns-in_err-check_limit-clause-stop g c =
     let why = c.in_err-check_limit.field-0.0 in
     let before = c.in_ok-before.before in
     let reads = c.in_ok-before.ensures.read in
-    err_as c.from_residual-in_err-check_limit.result (λ stop. IsRefusal why stop) _ c.from_residual-in_err-check_limit.ensures.1
+    err_as c.from_residual-in_err-check_limit.result (λ stop. IsRefusalLayersStop why stop) _ c.from_residual-in_err-check_limit.ensures.1
     (λ stop is. ⊎_elim
     (λ h. inr (inr (inr (inl (before, c.in_ok-after.after, c.in_ok-after.revision, reads, c.in_ok-after.ensures.changed, h.1, is ∙ ap (λ (w : LayersRefusal). Refused w) h.0)))))
     (λ m. inr (inr (inl (c.in_ok-check_name.ensures.name, (before, reads, inr (inr (is ∙ ap (λ (w : LayersRefusal). Refused w) m)))))))

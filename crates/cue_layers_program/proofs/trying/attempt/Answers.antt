@@ -1,7 +1,7 @@
 use Rattle.std.proofs.Common.{ℕ, List, inl, inr, ⊎_elim, ap, ◌∙◌, subst}
 use Rattle.cue_layers.specs.declared.LayersRefusal.{LayersRefusal}
 use Rattle.cue_layers_program.specs.Tries.{AreNewLines}
-use Rattle.cue_layers_program.specs.Stops.{IsMemory, IsRefusal}
+use Rattle.cue_layers_program.specs.Stops.{IsMemoryLayersStop, IsRefusalLayersStop}
 use Rattle.cue_layers_program.specs.declared.stop.LayersStop.TheVariants.{Refused}
 use Rattle.cue_layers_program.proofs.Results.{err_as, err_on}
 use Rattle.cue_layers_program.proofs.trying.attempt.Goals as goal
@@ -16,7 +16,7 @@ returns-in_err-report-clause-stop g c =
     let why = c.in_err-report.field-0.0 in
     let before = c.in_ok-before.before in
     let reads = c.in_ok-before.ensures.read in
-    err_as c.from_residual-in_err-report.result (λ stop. IsRefusal why stop) _ c.from_residual-in_err-report.ensures.1
+    err_as c.from_residual-in_err-report.result (λ stop. IsRefusalLayersStop why stop) _ c.from_residual-in_err-report.ensures.1
     (λ stop is. ⊎_elim
     (λ h. inr (inr (inr (before, c.in_ok-after.after, c.in_ok-after.field-0-1, reads, c.in_ok-after.ensures.changed, h.1, is ∙ ap (λ (w : LayersRefusal). Refused w) h.0))))
     (λ m. inr (inr (inl (c.in_ok-check_name.ensures.name, (before, reads, inr (inr (is ∙ ap (λ (w : LayersRefusal). Refused w) m)))))))
@@ -25,12 +25,12 @@ returns-in_err-report-clause-stop g c =
 pub returns-in_err-former-clause-stop : goal.returns-in_err-former-clause-stop
 returns-in_err-former-clause-stop g c =
     let why = c.in_err-former.field-0.0 in
-    err_as c.from_residual-in_err-former.result (λ stop. IsRefusal why stop) _ c.from_residual-in_err-former.ensures.1
+    err_as c.from_residual-in_err-former.result (λ stop. IsRefusalLayersStop why stop) _ c.from_residual-in_err-former.ensures.1
     (λ stop is. inr (inr (inl (c.in_ok-check_name.ensures.name, (c.in_ok-before.before, c.in_ok-before.ensures.read, inr (inr (is ∙ ap (λ (w : LayersRefusal). Refused w) c.in_err-former.ensures.refused)))))))
 
 pub returns-in_err-new_lines-clause-stop : goal.returns-in_err-new_lines-clause-stop
 returns-in_err-new_lines-clause-stop g c =
-    err_as c.from_residual-in_err-new_lines.result IsMemory _ c.from_residual-in_err-new_lines.ensures.1
+    err_as c.from_residual-in_err-new_lines.result IsMemoryLayersStop _ c.from_residual-in_err-new_lines.ensures.1
     (λ stop m. inr (inr (inl (c.in_ok-check_name.ensures.name, (c.in_ok-before.before, c.in_ok-before.ensures.read, inr (inr m))))))
 
 pub returns-clause-tried : goal.returns-clause-tried

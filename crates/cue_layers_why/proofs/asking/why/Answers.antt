@@ -14,7 +14,7 @@ returns-clause-none c = λ silent.
     let shown = map step_of c.shown_path-place.result.now in
     let are = subst (λ ls. AreSources ls sources) c.entries.ensures.layers c.in_ok-sources_of.ensures in
     let none : kept ≡ [] = c.in_ok-made.ensures.none (λ h. silent ((reported_as layers sources path are).1 h)) in
-    if_ok_as c.named_layers.result (λ named. AreNamedSources shown kept named.items) (λ named. named.items ≡ []) (λ named h. none_named shown kept named.items none h) c.named_layers.ensures
+    if_ok_as c.name_layers.result (λ named. AreNamedSources shown kept named.items) (λ named. named.items ≡ []) (λ named h. none_named shown kept named.items none h) c.name_layers.ensures
 
 pub returns-clause-some : goal.returns-clause-some
 returns-clause-some c = λ reported.
@@ -25,5 +25,5 @@ returns-clause-some c = λ reported.
     let shown = map step_of c.shown_path-place.result.now in
     let are = subst (λ ls. AreSources ls sources) c.entries.ensures.layers c.in_ok-sources_of.ensures in
     let told = (reported_as layers sources path are).0 reported in
-    if_ok_as c.named_layers.result (λ named. AreNamedSources shown kept named.items) (λ named. IsWhy layers path named.items)
-    (λ named h. why_is layers sources kept path shown c.in_ok-made.made.of_label named.items are (c.in_ok-made.ensures.left told) (c.in_ok-made.ensures.least told) c.in_ok-made.ensures.label c.shown_path-place.ensures h) c.named_layers.ensures
+    if_ok_as c.name_layers.result (λ named. AreNamedSources shown kept named.items) (λ named. IsWhy layers path named.items)
+    (λ named h. why_is layers sources kept path shown c.in_ok-made.made.of_label named.items are (c.in_ok-made.ensures.left told) (c.in_ok-made.ensures.least told) c.in_ok-made.ensures.label c.shown_path-place.ensures h) c.name_layers.ensures

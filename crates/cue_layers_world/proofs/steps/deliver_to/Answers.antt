@@ -1,11 +1,11 @@
 use Rattle.std.proofs.Common.{◌<◌, ◌^◌, inr, refl, length, arith, subst, List, ℕ}
 use Rattle.std.proofs.lemmas.Option.{slice_get_read}
-use Rattle.cue_layers_world.specs.Inner.Steps.{HappensAt, Joins, IsHeld}
+use Rattle.cue_layers_world.specs.Inner.Steps.{HappensAtMap, Joins, IsHeld}
 use Rattle.cue_layers_world.proofs.steps.deliver_to.Goals as goal
 
 pub returns : goal.returns
 returns c =
-    let P : List ℕ → Type 0 = λ bytes. HappensAt (Joins bytes) c.args.sites.now c.args.site c.join_at.new.sites c.join_at.result in
+    let P : List ℕ → Type 0 = λ bytes. HappensAtMap (Joins bytes) c.args.sites.now c.args.site c.join_at.new.sites c.join_at.result in
     let held : length c.as_slice.result.now < 2 ^ 64 = omega arith in
     inr (
       c.index-messages-message.result,

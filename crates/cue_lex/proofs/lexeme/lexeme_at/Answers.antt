@@ -4,8 +4,8 @@ use Rattle.std.specs.List.{prefix_len}
 use Rattle.std.specs.Str.{IsCharBoundary}
 use Rattle.std.proofs.lemmas.Str.{IsCharBoundary-after_ascii}
 use Rattle.std.specs.Char.{is_ascii_alphabetic}
-use Rattle.cue_lex.specs.Marks.{mark}
-use Rattle.cue_lex.specs.Lexemes.{EndsAscii, name}
+use Rattle.cue_lex.specs.Marks.{mark_in_front}
+use Rattle.cue_lex.specs.Lexemes.{EndsAscii, lex_name}
 use Rattle.cue_lex.proofs.Fronts.{ends_boundary, found_boundary, boundary_three, line_boundary}
 use Rattle.cue_lex.proofs.FirstBytes.{gives_same, some_of, lexeme_letter, lexeme_mark, run_letter}
 use Rattle.cue_lex.proofs.Beginning.{integer_told, name_told}
@@ -41,7 +41,7 @@ pub returns-in-Some-clause-boundary : goal.returns-in-Some-clause-boundary
 returns-in-Some-clause-boundary c = ends_boundary c.args.text.now c.in-Some.len c.utf8.text (subst (λ bytes. EndsAscii bytes c.in-Some.len) c.as_bytes-bytes.ensures.value c.in-Some.ensures.ends)
 
 pub returns-in-Some-clause-gives : goal.returns-in-Some-clause-gives
-returns-in-Some-clause-gives c = lexeme_mark c.args.after_minus c.args.at c.args.text.now c.in-Some.mark c.in-Some.len c.utf8.text (ap mark (sym c.as_bytes-bytes.ensures.value) ∙ sym c.mark.ensures.value ∙ c.in-Some.is)
+returns-in-Some-clause-gives c = lexeme_mark c.args.after_minus c.args.at c.args.text.now c.in-Some.mark c.in-Some.len c.utf8.text (ap mark_in_front (sym c.as_bytes-bytes.ensures.value) ∙ sym c.mark.ensures.value ∙ c.in-Some.is)
 
 is_letter_first : (c : After-run_len) → is_ascii_alphabetic (get_or c.args.text.now 0 0) ≡ true
 is_letter_first c = ap (λ bytes. is_ascii_alphabetic (get_or bytes 0 0)) (sym c.as_bytes-bytes.ensures.value) ∙ sym c.is_ascii_alphabetic.ensures.value ∙ c.if-is_ascii_alphabetic.true
@@ -59,7 +59,7 @@ pub returns-then-is_ascii_alphabetic-clause-gives : goal.returns-then-is_ascii_a
 returns-then-is_ascii_alphabetic-clause-gives c =
     gives_same _ _
     (lexeme_letter c.args.after_minus c.args.at c.args.text.now c.utf8.text c.requires.nonempty (is_letter_first (goal.at.returns-then-is_ascii_alphabetic-clause-gives c).After-run_len)
-    ∙ ap (λ len. name c.args.at len c.args.text.now) (sym c.run_len.ensures.value) ∙ sym c.name.ensures.value)
+    ∙ ap (λ len. lex_name c.args.at len c.args.text.now) (sym c.run_len.ensures.value) ∙ sym c.name.ensures.value)
 
 pub returns-then-is_ascii_alphabetic-clause-some : goal.returns-then-is_ascii_alphabetic-clause-some
 returns-then-is_ascii_alphabetic-clause-some c =

@@ -3,7 +3,7 @@ use Rattle.std.specs.Prelude.{slice_index}
 use Rattle.std.specs.Char.{len_utf8}
 use Rattle.std.specs.Str.{IsCharBoundary}
 use Rattle.std.proofs.lemmas.Str.{IsCharBoundary-past_char, byte_from_char}
-use Rattle.cue_lex.specs.Strings.{escape}
+use Rattle.cue_lex.specs.Strings.{escape_sequence}
 use Rattle.cue_lex.specs.Lexemes.{EndsAscii}
 use Rattle.cue_lex.proofs.Bodies.{char_element, escape_element, escape_boundary, behind_first, IsRaw}
 use Rattle.cue_lex.proofs.string.element.Goals as goal
@@ -40,7 +40,7 @@ pub returns-clause-found : goal.returns-clause-found
 returns-clause-found c =
     let d = (goal.at.returns-clause-found c).In_ok-meant in
     escape_element c.args.text.now c.in_ok-meant.meant c.in_ok-meant.width c.requires.nonempty (is_backslash d)
-    (ap escape (sym (behind_first c.args.text.now c.as_bytes.result.now c.as_bytes.ensures.value)) ∙ sym c.in_ok-meant.ensures.value)
+    (ap escape_sequence (sym (behind_first c.args.text.now c.as_bytes.result.now c.as_bytes.ensures.value)) ∙ sym c.in_ok-meant.ensures.value)
     (ends d).within
 
 pub returns-clause-boundary : goal.returns-clause-boundary

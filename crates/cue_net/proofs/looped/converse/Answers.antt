@@ -2,8 +2,8 @@ use Rattle.std.proofs.Common.{◌∙◌, sym, arith, flat_map, ⊎_elim}
 use Rattle.std.proofs.lemmas.Bool.{false≢true}
 use Rattle.std.proofs.lemmas.List.Elements.{All-nil}
 use Rattle.cue_wire.specs.Clients.{request_frame, IsSendable}
-use Rattle.cue_wire.specs.Connections.{moment}
-use Rattle.cue_net.specs.Loops.{Ends}
+use Rattle.cue_wire.specs.Connections.{moment_of}
+use Rattle.cue_net.specs.Loops.{BothEnds}
 use Rattle.cue_net.proofs.Exchanging.{ex_then, ex_part, ex_is}
 use Rattle.cue_net.proofs.Pushes.{asks_both, question}
 use Rattle.cue_net.proofs.Rounds.{long_between, none_between, cut_between, between_on, answered_between}
@@ -13,20 +13,20 @@ pub returns-then-not-all_fit-clause-answer : goal.returns-then-not-all_fit-claus
 returns-then-not-all_fit-clause-answer g c =
     let source = g.S.Source in
     let sink = g.K.Sink in
-    let at = moment source.given source.to_come sink.taken source.called sink.called source.failed sink.failed in
+    let at = moment_of source.given source.to_come sink.taken source.called sink.called source.failed sink.failed in
     let near = c.args.near.now in
     let far = c.args.far.now in
-    let before : Ends = record { near = at near.source near.sink; far = at far.source far.sink } in
+    let before : BothEnds = record { near = at near.source near.sink; far = at far.source far.sink } in
     long_between c.args.inputs.now before c.args.turns (λ all. absurd (false≢true (sym c.if-not-all_fit.true ∙ c.all_fit.ensures.1 all)))
 
 pub returns-in_err-hearing-clause-answer : goal.returns-in_err-hearing-clause-answer
 returns-in_err-hearing-clause-answer g c =
     let source = g.S.Source in
     let sink = g.K.Sink in
-    let at = moment source.given source.to_come sink.taken source.called sink.called source.failed sink.failed in
+    let at = moment_of source.given source.to_come sink.taken source.called sink.called source.failed sink.failed in
     let near = c.args.near.now in
     let far = c.args.far.now in
-    let before : Ends = record { near = at near.source near.sink; far = at far.source far.sink } in
+    let before : BothEnds = record { near = at near.source near.sink; far = at far.source far.sink } in
     between_on c.from_residual.result c.in_err-hearing.field-0.0 c.args.inputs.now before before c.args.turns c.from_residual.ensures.1
     (none_between c.in_err-hearing.field-0.0 c.args.inputs.now before c.args.turns
     (⊎_elim (λ memory. memory) (λ long. absurd (long.1 (All-nil IsSendable))) c.in_err-hearing.ensures.err))
@@ -35,10 +35,10 @@ pub returns-in_err-serving-clause-answer : goal.returns-in_err-serving-clause-an
 returns-in_err-serving-clause-answer g c =
     let source = g.S.Source in
     let sink = g.K.Sink in
-    let at = moment source.given source.to_come sink.taken source.called sink.called source.failed sink.failed in
+    let at = moment_of source.given source.to_come sink.taken source.called sink.called source.failed sink.failed in
     let near = c.args.near.now in
     let far = c.args.far.now in
-    let before : Ends = record { near = at near.source near.sink; far = at far.source far.sink } in
+    let before : BothEnds = record { near = at near.source near.sink; far = at far.source far.sink } in
     between_on c.from_residual-in_err-serving.result c.in_err-serving.field-0.0 c.args.inputs.now before before c.args.turns c.from_residual-in_err-serving.ensures.1
     (none_between c.in_err-serving.field-0.0 c.args.inputs.now before c.args.turns c.in_err-serving.ensures.err)
 
@@ -46,12 +46,12 @@ pub returns-in_err-exchange-clause-answer : goal.returns-in_err-exchange-clause-
 returns-in_err-exchange-clause-answer g c =
     let source = g.S.Source in
     let sink = g.K.Sink in
-    let at = moment source.given source.to_come sink.taken source.called sink.called source.failed sink.failed in
+    let at = moment_of source.given source.to_come sink.taken source.called sink.called source.failed sink.failed in
     let near = c.args.near.now in
     let far = c.args.far.now in
-    let before : Ends = record { near = at near.source near.sink; far = at far.source far.sink } in
+    let before : BothEnds = record { near = at near.source near.sink; far = at far.source far.sink } in
     let new = c.exchange.new in
-    let after : Ends = record { near = at new.near.source new.near.sink; far = at new.far.source new.far.sink } in
+    let after : BothEnds = record { near = at new.near.source new.near.sink; far = at new.far.source new.far.sink } in
     let site = c.in_ok-serving.serving in
     between_on c.from_residual-in_err-exchange.result c.in_err-exchange.field-0.0 c.args.inputs.now before after c.args.turns c.from_residual-in_err-exchange.ensures.1
     (cut_between c.in_err-exchange.field-0.0 c.args.inputs.now c.in_ok-hearing.hearing new.hearing site.session new.serving.session site.site new.serving.site
@@ -62,12 +62,12 @@ pub returns-in_err-exchange-2-clause-answer : goal.returns-in_err-exchange-2-cla
 returns-in_err-exchange-2-clause-answer g c =
     let source = g.S.Source in
     let sink = g.K.Sink in
-    let at = moment source.given source.to_come sink.taken source.called sink.called source.failed sink.failed in
+    let at = moment_of source.given source.to_come sink.taken source.called sink.called source.failed sink.failed in
     let near = c.args.near.now in
     let far = c.args.far.now in
-    let before : Ends = record { near = at near.source near.sink; far = at far.source far.sink } in
+    let before : BothEnds = record { near = at near.source near.sink; far = at far.source far.sink } in
     let new = c.exchange-2.new in
-    let after : Ends = record { near = at new.near.source new.near.sink; far = at new.far.source new.far.sink } in
+    let after : BothEnds = record { near = at new.near.source new.near.sink; far = at new.far.source new.far.sink } in
     let site = c.in_ok-serving.serving in
     between_on c.from_residual-in_err-exchange-2.result c.in_err-exchange-2.field-0.0 c.args.inputs.now before after c.args.turns c.from_residual-in_err-exchange-2.ensures.1
     (cut_between c.in_err-exchange-2.field-0.0 c.args.inputs.now c.in_ok-hearing.hearing new.hearing site.session new.serving.session site.site new.serving.site
@@ -79,15 +79,15 @@ pub returns-clause-answer : goal.returns-clause-answer
 returns-clause-answer g c =
     let source = g.S.Source in
     let sink = g.K.Sink in
-    let at = moment source.given source.to_come sink.taken source.called sink.called source.failed sink.failed in
+    let at = moment_of source.given source.to_come sink.taken source.called sink.called source.failed sink.failed in
     let near = c.args.near.now in
     let far = c.args.far.now in
-    let before : Ends = record { near = at near.source near.sink; far = at far.source far.sink } in
+    let before : BothEnds = record { near = at near.source near.sink; far = at far.source far.sink } in
     let new = c.exchange-2.new in
-    let after : Ends = record { near = at new.near.source new.near.sink; far = at new.far.source new.far.sink } in
+    let after : BothEnds = record { near = at new.near.source new.near.sink; far = at new.far.source new.far.sink } in
     let site = c.in_ok-serving.serving in
-    answered_between tt c.told_by.result c.args.inputs.now c.in_ok-hearing.hearing new.hearing site.session new.serving.session site.site new.serving.site c.replies.result.now
+    answered_between tt c.answer_of_replies.result c.args.inputs.now c.in_ok-hearing.hearing new.hearing site.session new.serving.session site.site new.serving.site c.replies.result.now
     before after c.args.turns new.left
     (c.all_fit.ensures.0 c.if-not-all_fit.false) c.in_ok-hearing.ensures.taken c.in_ok-serving.ensures.session c.in_ok-serving.ensures.site
     (ex_is (sym (asks_both c.args.inputs.now)) (ex_then c.in_ok-exchange.ensures.sound c.in_ok-exchange.ensures.exchanged c.in_ok-exchange-2.ensures.exchanged))
-    c.replies.ensures c.told_by.ensures
+    c.replies.ensures c.answer_of_replies.ensures

@@ -41,7 +41,7 @@ loop-rest-preserved g c =
     let piece = take n rest in
     let w = c.write_some.new.sink in
     let sv = c.serve_so_many.new in
-    let b = c.bring_back.new in
+    let b = c.carry_replies.new in
     let q = c.in_ok-serve_so_many.ensures.read in
     let few : most ≤ length rest = omega (arith, c.min-most.ensures) in
     let within : n ≤ length rest = omega (arith, c.in_ok-count.ensures.bound, length-take most rest) in
@@ -60,14 +60,14 @@ loop-rest-preserved g c =
             (length-take-le n rest within)
             (omega (arith, c.in_ok-count.ensures.turn, c.in_ok-count.ensures.some, some, c.min-most.ensures, length-take most rest, q.3.0, q.5)) c.clear.ensures.items c.deref.ensures.value
             (front_taken (sink.taken s.near.sink) (sink.taken w) rest n most c.in_ok-count.ensures.bound few c.in_ok-count.ensures.takes)
-            q.1 q.2 q.3 c.in_ok-bring_back.ensures.brought),
+            q.1 q.2 q.3 c.in_ok-carry_replies.ensures.brought),
       );
-      turns = omega (arith, s.invariant.turns, c.in_ok-count.ensures.turns, c.in_ok-serve_so_many.ensures.turns, c.in_ok-bring_back.ensures.turns);
-      heard = omega (arith, s.invariant.heard, c.in_ok-bring_back.ensures.reads);
+      turns = omega (arith, s.invariant.turns, c.in_ok-count.ensures.turns, c.in_ok-serve_so_many.ensures.turns, c.in_ok-carry_replies.ensures.turns);
+      heard = omega (arith, s.invariant.heard, c.in_ok-carry_replies.ensures.reads);
       sent = omega (arith, s.invariant.sent, c.in_ok-count.ensures.turns, c.in_ok-count.ensures.fewer);
       read = omega (arith, s.invariant.read, c.in_ok-serve_so_many.ensures.turns, c.in_ok-serve_so_many.ensures.fewer);
-      told = omega (arith, s.invariant.told, c.in_ok-bring_back.ensures.writes);
-      sound = omega (arith, s.invariant.sound, c.in_ok-count.ensures.sound, c.in_ok-serve_so_many.ensures.sound, c.in_ok-bring_back.ensures.sound);
+      told = omega (arith, s.invariant.told, c.in_ok-carry_replies.ensures.writes);
+      sound = omega (arith, s.invariant.sound, c.in_ok-count.ensures.sound, c.in_ok-serve_so_many.ensures.sound, c.in_ok-carry_replies.ensures.sound);
     }
 
 pub returns-in_err-asking-clause-exchanged : goal.returns-in_err-asking-clause-exchanged
@@ -133,8 +133,8 @@ returns-in_err-serve_so_many-clause-exchanged g c =
     (front_taken (sink.taken s.near.sink) (sink.taken w) rest n most c.in_ok-count.ensures.bound few c.in_ok-count.ensures.takes)
     q.1 q.2 (length-take-le n rest within) q.4))))
 
-pub returns-in_err-bring_back-clause-exchanged : goal.returns-in_err-bring_back-clause-exchanged
-returns-in_err-bring_back-clause-exchanged g c =
+pub returns-in_err-carry_replies-clause-exchanged : goal.returns-in_err-carry_replies-clause-exchanged
+returns-in_err-carry_replies-clause-exchanged g c =
     let source = g.S.Source in
     let sink = g.K.Sink in
     let s = c.loop-rest in
@@ -145,13 +145,13 @@ returns-in_err-bring_back-clause-exchanged g c =
     let piece = take n rest in
     let w = c.write_some.new.sink in
     let sv = c.serve_so_many.new in
-    let b = c.bring_back.new in
+    let b = c.carry_replies.new in
     let q = c.in_ok-serve_so_many.ensures.read in
     let few : most ≤ length rest = omega (arith, c.min-most.ensures) in
     let within : n ≤ length rest = omega (arith, c.in_ok-count.ensures.bound, length-take most rest) in
     let some : 0 < length rest = grind (arith, c.is_empty.ensures, c.loop-rest-test.true) in
-    ex_on c.from_residual-in_err-bring_back.ensures.1 (ex_is (parts_more (flat_map request_frame c.args.requests.now) e.0 rest n e.1) (ex_part (take (length rest - n) (drop n rest))
-    (ex_then s.invariant.sound e.2 (piece_unheard c.in_err-bring_back.field-0.0 piece c.deref.result.now q.0 s.hearing b.hearing
+    ex_on c.from_residual-in_err-carry_replies.ensures.1 (ex_is (parts_more (flat_map request_frame c.args.requests.now) e.0 rest n e.1) (ex_part (take (length rest - n) (drop n rest))
+    (ex_then s.invariant.sound e.2 (piece_unheard c.in_err-carry_replies.field-0.0 piece c.deref.result.now q.0 s.hearing b.hearing
     s.serving.session sv.serving.session s.serving.site sv.serving.site
     (source.given s.near.source) (source.given b.source) (source.to_come s.near.source) (source.to_come b.source) (sink.taken s.near.sink) (sink.taken w)
     (source.given s.far.source) (source.given sv.source) (source.to_come s.far.source) (source.to_come sv.source) (sink.taken s.far.sink) (sink.taken b.sink)
@@ -161,7 +161,7 @@ returns-in_err-bring_back-clause-exchanged g c =
     (λ more. omega (arith, more, c.in_ok-count.ensures.sound, c.in_ok-serve_so_many.ensures.sound))
     (omega (arith, c.in_ok-count.ensures.turn, c.in_ok-count.ensures.some, some, c.min-most.ensures, length-take most rest, q.3.0, q.5, length-take-le n rest within))
     (front_taken (sink.taken s.near.sink) (sink.taken w) rest n most c.in_ok-count.ensures.bound few c.in_ok-count.ensures.takes)
-    q.1 q.2 c.in_err-bring_back.ensures.brought))))
+    q.1 q.2 c.in_err-carry_replies.ensures.brought))))
 
 pub returns-clause-exchanged : goal.returns-clause-exchanged
 returns-clause-exchanged g c =

@@ -1,13 +1,13 @@
 use Rattle.std.proofs.Common.{◌≡◌, ◌+◌, ◌≤◌, ◌++◌, ℕ, List, flat_map, Ok}
 use Rattle.cue_wire.specs.Clients.{request_frame}
-use Rattle.cue_net.specs.Inner.Looping.{Exchanged}
+use Rattle.cue_net.specs.Inner.Looping.{ExchangedFrames}
 use Rattle.cue_net.proofs.looped.exchange.Given as goal
 
 -- the front of the frames is exchanged, and the rest is left
 abbrev pub invariant-loop-rest : goal.invariant-loop-rest
 invariant-loop-rest g l = record {
   exchanged : (front : List ℕ) × (flat_map request_frame l.fn.requests ≡ front ++ l.rest)
-      × Exchanged (Ok tt) front l.fn.hearing l.hearing l.fn.serving.session l.serving.session l.fn.serving.site l.serving.site
+      × ExchangedFrames (Ok tt) front l.fn.hearing l.hearing l.fn.serving.session l.serving.session l.fn.serving.site l.serving.site
       (g.S.Source.given l.fn.near.source) (g.S.Source.given l.near.source) (g.S.Source.to_come l.fn.near.source) (g.S.Source.to_come l.near.source)
       (g.K.Sink.taken l.fn.near.sink) (g.K.Sink.taken l.near.sink)
       (g.S.Source.given l.fn.far.source) (g.S.Source.given l.far.source) (g.S.Source.to_come l.fn.far.source) (g.S.Source.to_come l.far.source)

@@ -1,6 +1,6 @@
 use Rattle.std.proofs.Common.{◌∙◌, inl, inr, refl, sym}
 use Rattle.std.proofs.lemmas.Bool.{false≢true}
-use Rattle.cue_wire.specs.Connections.{moment}
+use Rattle.cue_wire.specs.Connections.{moment_of}
 use Rattle.cue_net.proofs.Calls.{of_long, of_both}
 use Rattle.cue_net.proofs.looped.loop_for.Goals as goal
 
@@ -37,7 +37,7 @@ pub returns-clause-answer : goal.returns-clause-answer
 returns-clause-answer g c =
     let source = g.H.Input.Source in
     let sink = g.H.Output.Sink in
-    let at = moment source.given source.to_come sink.taken source.called sink.called source.failed sink.failed in
+    let at = moment_of source.given source.to_come sink.taken source.called sink.called source.failed sink.failed in
     let near = c.in_ok-near.near in
     let far = c.in_ok-near.far in
     let left = c.converse.new in

@@ -1,6 +1,6 @@
 use Rattle.std.proofs.Common.{◌+◌, ◌∙◌, sym, length, arith, Ok, Err}
 use Rattle.std.proofs.lemmas.Bool.{false≢true}
-use Rattle.cue_wire.specs.Connections.{moment, failures}
+use Rattle.cue_wire.specs.Connections.{moment_of, failures}
 use Rattle.cue_net.proofs.Pushes.{stops_first, asks_on}
 use Rattle.cue_net.proofs.Talks.{cut, cut_on, answered, too_long, no_client}
 use Rattle.cue_net.proofs.pushing.push.Goals as goal
@@ -9,14 +9,14 @@ pub returns-then-not-all_fit-clause-answer : goal.returns-then-not-all_fit-claus
 returns-then-not-all_fit-clause-answer g c =
     let source = g.S.Source in
     let sink = g.K.Sink in
-    let at = moment source.given source.to_come sink.taken source.called sink.called source.failed sink.failed in
+    let at = moment_of source.given source.to_come sink.taken source.called sink.called source.failed sink.failed in
     too_long c.args.inputs.now (at c.args.source.now c.args.sink.now) c.args.turns (λ all. absurd (false≢true (sym c.if-not-all_fit.true ∙ c.all_fit.ensures.1 all)))
 
 pub returns-in_err-hearing-clause-answer : goal.returns-in_err-hearing-clause-answer
 returns-in_err-hearing-clause-answer g c =
     let source = g.S.Source in
     let sink = g.K.Sink in
-    let at = moment source.given source.to_come sink.taken source.called sink.called source.failed sink.failed in
+    let at = moment_of source.given source.to_come sink.taken source.called sink.called source.failed sink.failed in
     let before = at c.args.source.now c.args.sink.now in
     cut_on c.from_residual.result c.in_err-hearing.field-0.0 c.args.inputs.now before before c.args.turns c.from_residual.ensures.1
     (no_client c.in_err-hearing.field-0.0 c.args.inputs.now before c.args.turns c.in_err-hearing.ensures.err)
@@ -25,7 +25,7 @@ pub returns-in_err-push_inputs-clause-answer : goal.returns-in_err-push_inputs-c
 returns-in_err-push_inputs-clause-answer g c =
     let source = g.S.Source in
     let sink = g.K.Sink in
-    let at = moment source.given source.to_come sink.taken source.called sink.called source.failed sink.failed in
+    let at = moment_of source.given source.to_come sink.taken source.called sink.called source.failed sink.failed in
     let new = c.push_inputs.new in
     let before = at c.args.source.now c.args.sink.now in
     let after = at new.source new.sink in
@@ -37,7 +37,7 @@ pub returns-in_err-ask-clause-answer : goal.returns-in_err-ask-clause-answer
 returns-in_err-ask-clause-answer g c =
     let source = g.S.Source in
     let sink = g.K.Sink in
-    let at = moment source.given source.to_come sink.taken source.called sink.called source.failed sink.failed in
+    let at = moment_of source.given source.to_come sink.taken source.called sink.called source.failed sink.failed in
     let mid = c.push_inputs.new in
     let new = c.ask.new in
     let before = at c.args.source.now c.args.sink.now in
@@ -54,15 +54,15 @@ pub returns-clause-answer : goal.returns-clause-answer
 returns-clause-answer g c =
     let source = g.S.Source in
     let sink = g.K.Sink in
-    let at = moment source.given source.to_come sink.taken source.called sink.called source.failed sink.failed in
+    let at = moment_of source.given source.to_come sink.taken source.called sink.called source.failed sink.failed in
     let mid = c.push_inputs.new in
     let new = c.ask.new in
     let before = at c.args.source.now c.args.sink.now in
     let between = at mid.source mid.sink in
     let after = at new.source new.sink in
-    answered tt c.told_by.result c.args.inputs.now c.in_ok-hearing.hearing new.hearing c.replies.result.now before after c.args.turns new.left
+    answered tt c.answer_of_replies.result c.args.inputs.now c.in_ok-hearing.hearing new.hearing c.replies.result.now before after c.args.turns new.left
     (c.all_fit.ensures.0 c.if-not-all_fit.false) c.in_ok-hearing.ensures.taken
     (asks_on tt (Ok tt) c.args.inputs.now c.in_ok-hearing.hearing mid.hearing new.hearing
     before.given between.given after.given before.to_come between.to_come after.to_come before.taken between.taken after.taken c.args.turns mid.left new.left
     (failures before) (failures between) (failures after) c.in_ok-push_inputs.ensures.sound c.in_ok-push_inputs.ensures.asked c.in_ok-ask.ensures.asked)
-    c.replies.ensures c.told_by.ensures
+    c.replies.ensures c.answer_of_replies.ensures

@@ -1,6 +1,6 @@
 use Rattle.std.proofs.Common.{◌∙◌, inl, inr, refl, sym}
 use Rattle.std.proofs.lemmas.Bool.{false≢true}
-use Rattle.cue_wire.specs.Connections.{moment}
+use Rattle.cue_wire.specs.Connections.{moment_of}
 use Rattle.cue_net.proofs.Calls.{of_long, of_talk}
 use Rattle.cue_net.proofs.pushing.push_for.Goals as goal
 
@@ -22,7 +22,7 @@ pub returns-clause-answer : goal.returns-clause-answer
 returns-clause-answer g c =
     let source = g.H.Input.Source in
     let sink = g.H.Output.Sink in
-    let at = moment source.given source.to_come sink.taken source.called sink.called source.failed sink.failed in
+    let at = moment_of source.given source.to_come sink.taken source.called sink.called source.failed sink.failed in
     let end = c.in_ok-end.end in
     let left = c.push.new in
     let answer = c.push.ensures.answer in

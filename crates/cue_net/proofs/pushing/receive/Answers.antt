@@ -25,7 +25,7 @@ loop-piece-preserved g c =
         h.0 ++ piece,
         Appends-trans (source.given c.args.source.now) (source.given s.source) (source.given c.read_some.new.source) h.0 piece h.1 r.ensures.gives,
         Consumes-trans (source.to_come c.args.source.now) (source.to_come s.source) (source.to_come c.read_some.new.source) h.0 piece h.2 r.ensures.takes.0,
-        hears_more c.args.hearing.now s.hearing c.hear.new.hearing h.0 piece h.3 c.in_ok-hear.ensures.ok,
+        hears_more c.args.hearing.now s.hearing c.feed_client.new.hearing h.0 piece h.3 c.in_ok-feed_client.ensures.ok,
         omega (arith, h.4, r.ensures.turn, r.ensures.bound, length-append h.0 piece, length-take-le r.got c.read_some.new.into r.ensures.bound.1),
       );
       turns = omega (arith, s.invariant.turns, r.ensures.turns);
@@ -50,21 +50,21 @@ returns-in_err-got-clause-heard g c =
           (source.to_come new) h.3 few s.invariant.sound c.in_err-got.ensures.halt;
     })
 
-pub returns-in_err-hear-clause-heard : goal.returns-in_err-hear-clause-heard
-returns-in_err-hear-clause-heard g c =
+pub returns-in_err-feed_client-clause-heard : goal.returns-in_err-feed_client-clause-heard
+returns-in_err-feed_client-clause-heard g c =
     let source = g.S.Source in
     let s = c.loop-piece in
     let h = s.invariant.heard in
     let new = c.read_some.new.source in
     let r = c.in_ok-got in
     let piece = take r.got c.read_some.new.into in
-    heard_on c.from_residual-in_err-hear.ensures.1 (record {
+    heard_on c.from_residual-in_err-feed_client.ensures.1 (record {
       piece = h.0 ++ piece;
       gave = Appends-trans (source.given c.args.source.now) (source.given s.source) (source.given new) h.0 piece h.1 r.ensures.gives;
       took = Consumes-trans (source.to_come c.args.source.now) (source.to_come s.source) (source.to_come new) h.0 piece h.2 r.ensures.takes.0;
       moves = inr (omega (arith, h.4, r.ensures.turn, r.ensures.bound, length-append h.0 piece, length-take-le r.got c.read_some.new.into r.ensures.bound.1));
-      ends = stops_taking c.in_err-hear.field-0.0 c.args.hearing.now s.hearing c.hear.new.hearing h.0 piece c.args.count c.read_some.new.left (source.failed c.args.source.now) (source.failed new)
-          (source.to_come new) h.3 c.in_err-hear.ensures.err;
+      ends = stops_taking c.in_err-feed_client.field-0.0 c.args.hearing.now s.hearing c.feed_client.new.hearing h.0 piece c.args.count c.read_some.new.left (source.failed c.args.source.now) (source.failed new)
+          (source.to_come new) h.3 c.in_err-feed_client.ensures.err;
     })
 
 pub returns-clause-heard : goal.returns-clause-heard

@@ -1,7 +1,7 @@
 use Rattle.std.proofs.Common.{◌≡◌, ◌-◌, [], length, map, take, drop, sym, ap, ◌∙◌, arith, rules}
 use Rattle.std.specs.Prelude.{IsTrue}
 use Rattle.std.proofs.lemmas.Bool.{false≢true}
-use Rattle.cue_row.specs.Row.{RowRefuses}
+use Rattle.cue_row.specs.Row.{RowRefusesQuestion}
 use Rattle.cue_row.specs.Steps.{step_of}
 use Rattle.cue_table.specs.Refuses.{TableRefuses}
 use Rattle.cue_places.proofs.Declaring.{not_declared, declared_none, declared_found}
@@ -14,7 +14,7 @@ returns-then-not-is_step_declared t c =
     let step = c.step-item.result in
     let rest = take (length steps - 1) (drop 1 steps) in (
       λ b. absurd (false≢true b),
-      λ h. absurd (not_declared (TableRefuses RowRefuses c.args.branch.now) (map step_of steps) (step_of step) (map step_of rest) (cut_path steps step (omega arith) c.step-item.is)
+      λ h. absurd (not_declared (TableRefuses RowRefusesQuestion c.args.branch.now) (map step_of steps) (step_of step) (map step_of rest) (cut_path steps step (omega arith) c.step-item.is)
           (λ d. false≢true (sym c.if-not-is_step_declared.true ∙ c.is_step_declared.ensures.1 d)) h),
     )
 

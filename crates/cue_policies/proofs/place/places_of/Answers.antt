@@ -1,8 +1,8 @@
 use Rattle.std.proofs.Common.{inl, inr, ⊎_elim, sym, subst, arith}
 use Rattle.cue_lattice.specs.OneOf.{OneOf}
-use Rattle.cue_row.specs.Row.{Refuses, IsRow}
+use Rattle.cue_row.specs.Row.{RefusesAsked, IsRow}
 use Rattle.cue_table.specs.Form.{IsTable}
-use Rattle.cue_policies.specs.Inner.Answers.{Answers}
+use Rattle.cue_policies.specs.Inner.Answers.{PolicyTreeRefusals}
 use Rattle.cue_policies.specs.Inner.Parts.{IsFit, PlaceRefuses}
 use Rattle.cue_policies.proofs.Asking.{met_answers}
 use Rattle.cue_policies.proofs.Gains.{gains_start, gains_more, gains_done, item_in}
@@ -15,9 +15,9 @@ pub loop-part-init : goal.loop-part-init
 loop-part-init c =
     let bare = c.new-table.ensures in
     record {
-      form = subst (IsTable Refuses IsRow) (sym bare) (tt, tt, tt);
-      gains = λ path question. gains_start (Answers c.new-table.result path question) (λ part. PlaceRefuses part path question) c.args.parts.now
-          (λ h. nothing_refused path question (subst (λ t. Answers t path question) bare h));
+      form = subst (IsTable RefusesAsked IsRow) (sym bare) (tt, tt, tt);
+      gains = λ path question. gains_start (PolicyTreeRefusals c.new-table.result path question) (λ part. PlaceRefuses part path question) c.args.parts.now
+          (λ h. nothing_refused path question (subst (λ t. PolicyTreeRefusals t path question) bare h));
       fit = λ top limited. subst (IsFit top) (sym bare) (empty_fit top);
     }
 
@@ -41,7 +41,7 @@ loop-part-preserved c =
       gains = λ path question.
           let m = met_answers old place new met path question in
           let p = c.in_ok-place_of.ensures.refused path question in
-          gains_more (Answers old path question) (Answers new path question) (λ part. PlaceRefuses part path question) c.args.parts.now c.loop-part.part-index c.part-item.result
+          gains_more (PolicyTreeRefusals old path question) (PolicyTreeRefusals new path question) (λ part. PlaceRefuses part path question) c.args.parts.now c.loop-part.part-index c.part-item.result
           (OneOf (λ part. PlaceRefuses part path question) c.args.parts.now) c.loop-part-test.true c.part-item.is
           (λ h. ⊎_elim (λ x. inl x) (λ x. inr (p.0 x)) (m.0 h), λ h. m.1 (⊎_elim (λ x. inl x) (λ x. inr (p.1 x)) h))
           (c.loop-part.invariant.gains path question);
@@ -52,5 +52,5 @@ loop-part-preserved c =
 
 pub returns-clause-refused : goal.returns-clause-refused
 returns-clause-refused c = λ path question.
-    gains_done (Answers c.loop-part.table path question) (λ part. PlaceRefuses part path question) c.args.parts.now c.loop-part.part-index (OneOf (λ part. PlaceRefuses part path question) c.args.parts.now)
+    gains_done (PolicyTreeRefusals c.loop-part.table path question) (λ part. PlaceRefuses part path question) c.args.parts.now c.loop-part.part-index (OneOf (λ part. PlaceRefuses part path question) c.args.parts.now)
     (omega (arith, c.loop-part-test.false)) (c.loop-part.invariant.gains path question)

@@ -7,7 +7,7 @@ use Rattle.std.proofs.lemmas.Result.{IfOk-weaker, err_from_is_err_and}
 use Rattle.cue_lattice.specs.Question.{SameAnswers}
 use Rattle.cue_table.specs.Tree.{Tree}
 use Rattle.cue_row.specs.declared.parts.RowParts.{RowParts as Row}
-use Rattle.cue_policies.specs.Inner.Answers.{Answers}
+use Rattle.cue_policies.specs.Inner.Answers.{PolicyTreeRefusals}
 use Rattle.cue_policies.specs.Inner.Parts.{IsFit, IsIn, PartsRefuse}
 use Rattle.cue_policies.proofs.Calls.{list_none, are_found, so_far_start, so_far_more, so_far_all, first_declared, declared_has, field_made, lone_answers}
 use Rattle.cue_policies.proofs.Sizes.{apart_start, apart_more, counted_more, field_too_large, fields_rows, if_err_weaker, more_rows, view_error}
@@ -58,8 +58,8 @@ loop-label-preserved t c =
       within = omega (arith, c.loop-label.invariant.within, c.in_ok-field.ensures.rows.1);
     }
 
-pub together-requires-clause-fields : goal.together-requires-clause-fields
-together-requires-clause-fields t c =
+pub join_parts-requires-clause-fields : goal.join_parts-requires-clause-fields
+join_parts-requires-clause-fields t c =
     so_far_all c.args.parts.now (into_iter_items c.loop-label.label-iterator) c.loop-label.fields.items
     (list_none (into_iter_items c.loop-label.label-iterator) (sym c.loop-label.label-iterator.rest.ok.0 ∙ c.in-None.ensures.steps.0)) c.loop-label.invariant.fields
 
@@ -95,7 +95,7 @@ returns-in_err-field-clause-large t c =
 
 pub returns-then-rows-eq0-clause-refused : goal.returns-then-rows-eq0-clause-refused
 returns-then-rows-eq0-clause-refused t c =
-    IfOk-weaker c.count_rows-then-rows-eq0.result _ _ (λ view is. subst (λ (table : Tree Row). SameAnswers (Answers table) (PartsRefuse c.args.parts.now)) (sym is) c.in_ok-table.ensures.refused) c.count_rows-then-rows-eq0.ensures.table
+    IfOk-weaker c.count_rows-then-rows-eq0.result _ _ (λ view is. subst (λ (table : Tree Row). SameAnswers (PolicyTreeRefusals table) (PartsRefuse c.args.parts.now)) (sym is) c.in_ok-table.ensures.refused) c.count_rows-then-rows-eq0.ensures.table
 
 pub returns-then-rows-eq0-clause-fit : goal.returns-then-rows-eq0-clause-fit
 returns-then-rows-eq0-clause-fit t c =

@@ -6,11 +6,11 @@ use Rattle.std.proofs.lemmas.List.{drop_all}
 use Rattle.cue_device.proofs.Texts.{appends_none, begins_now, begins_later}
 use Rattle.cue_device.proofs.Telling.{on_err, told_as, begun_as, appends_as, begins_as, tells_first, tells_next, tells_part, tells_all}
 use Rattle.cue_lattice.specs.Path.{label, index}
-use Rattle.cue_table.specs.Tree.{below, rest_of, row_of, step_into}
+use Rattle.cue_table.specs.Tree.{below, rest_below, row_of, step_into}
 use Rattle.cue_table.specs.Inner.Walks.{found_smaller}
 use Rattle.cue_print.specs.Printed.{elements, level_at}
 use Rattle.cue_print.specs.Terms.{terms_of}
-use Rattle.cue_print.specs.Spelled.{joined, mark_text, value_text, element_texts}
+use Rattle.cue_print.specs.Spelled.{join_texts, mark_text, value_text, element_texts}
 use Rattle.cue_print.specs.Inner.Writing.{fields_at, element_of, further_at, ending_text, longest_text, found_text, closed_text, written_struct}
 use Rattle.cue_print.proofs.Fields.{first_field, no_field_left, all_fields}
 use Rattle.cue_print.proofs.Found.{first_label, no_label_left, element_for, element_into, no_rest_told, rest_told}
@@ -190,16 +190,16 @@ push_element-returns-clause-begun g t c =
     let found = element_into c.args.branch.now c.args.number ∙ ap element_for (sym c.find.ensures.branch) in
     begun_as c.push_value.result _ _ _ _ (ap value_text (sym (found ∙ ap element_for c.in-Some.is))) c.push_value.ensures.begun
 
-pub push_told-returns-in-None-clause-told : goal.push_told-returns-in-None-clause-told
-push_told-returns-in-None-clause-told g t c =
+pub push_rest-returns-in-None-clause-told : goal.push_rest-returns-in-None-clause-told
+push_rest-returns-in-None-clause-told g t c =
     appends_as _ _ _ _ (no_rest_told c.args.branch.now c.in-None.ensures.rest) (appends_none _)
 
-pub push_told-returns-in-Some-clause-told : goal.push_told-returns-in-Some-clause-told
-push_told-returns-in-Some-clause-told g t c =
+pub push_rest-returns-in-Some-clause-told : goal.push_rest-returns-in-Some-clause-told
+push_rest-returns-in-Some-clause-told g t c =
     told_as c.push_value.result _ _ _ _ (rest_told c.args.branch.now c.in-Some.rest c.in-Some.ensures.rest) c.push_value.ensures.told
 
-pub push_told-returns-in-Some-clause-begun : goal.push_told-returns-in-Some-clause-begun
-push_told-returns-in-Some-clause-begun g t c =
+pub push_rest-returns-in-Some-clause-begun : goal.push_rest-returns-in-Some-clause-begun
+push_rest-returns-in-Some-clause-begun g t c =
     begun_as c.push_value.result _ _ _ _ (rest_told c.args.branch.now c.in-Some.rest c.in-Some.ensures.rest) c.push_value.ensures.begun
 
 -- ---- places
@@ -322,19 +322,19 @@ push_list-returns-in_err-put-clause-begun g t c =
 
 pub push_list-returns-in_err-push_elements-clause-begun : goal.push_list-returns-in_err-push_elements-clause-begun
 push_list-returns-in_err-push_elements-clause-begun g t c =
-    on_err _ (begins_later _ _ _ _ _ c.in_ok-put.ensures.told (begins_now _ _ _ _ (begins_as _ _ _ _ (ap (λ n. joined (codes ", ") (element_texts (elements n (element_of c.args.branch.now)))) c.least.ensures) c.in_err-push_elements.ensures.begun)))
+    on_err _ (begins_later _ _ _ _ _ c.in_ok-put.ensures.told (begins_now _ _ _ _ (begins_as _ _ _ _ (ap (λ n. join_texts (codes ", ") (element_texts (elements n (element_of c.args.branch.now)))) c.least.ensures) c.in_err-push_elements.ensures.begun)))
 
 pub push_list-returns-in_err-push_ending-clause-begun : goal.push_list-returns-in_err-push_ending-clause-begun
 push_list-returns-in_err-push_ending-clause-begun g t c =
-    on_err _ (begins_later _ _ _ _ _ c.in_ok-put.ensures.told (begins_later _ _ _ _ _ (appends_as _ _ _ _ (ap (λ n. joined (codes ", ") (element_texts (elements n (element_of c.args.branch.now)))) c.least.ensures) c.in_ok-push_elements.ensures.told) (begins_now _ _ _ _ (begins_as _ _ _ _ (ap (λ n. ending_text n c.is_exact-is_exact.result (further_at c.args.branch.now)) c.least-2.ensures ∙ ap (λ b. ending_text c.args.row.now.least b (further_at c.args.branch.now)) c.is_exact-is_exact.ensures) c.in_err-push_ending.ensures.begun))))
+    on_err _ (begins_later _ _ _ _ _ c.in_ok-put.ensures.told (begins_later _ _ _ _ _ (appends_as _ _ _ _ (ap (λ n. join_texts (codes ", ") (element_texts (elements n (element_of c.args.branch.now)))) c.least.ensures) c.in_ok-push_elements.ensures.told) (begins_now _ _ _ _ (begins_as _ _ _ _ (ap (λ n. ending_text n c.is_exact-is_exact.result (further_at c.args.branch.now)) c.least-2.ensures ∙ ap (λ b. ending_text c.args.row.now.least b (further_at c.args.branch.now)) c.is_exact-is_exact.ensures) c.in_err-push_ending.ensures.begun))))
 
 pub push_list-returns-in_err-put-2-clause-begun : goal.push_list-returns-in_err-put-2-clause-begun
 push_list-returns-in_err-put-2-clause-begun g t c =
-    on_err _ (begins_later _ _ _ _ _ c.in_ok-put.ensures.told (begins_later _ _ _ _ _ (appends_as _ _ _ _ (ap (λ n. joined (codes ", ") (element_texts (elements n (element_of c.args.branch.now)))) c.least.ensures) c.in_ok-push_elements.ensures.told) (begins_later _ _ _ _ _ (appends_as _ _ _ _ (ap (λ n. ending_text n c.is_exact-is_exact.result (further_at c.args.branch.now)) c.least-2.ensures ∙ ap (λ b. ending_text c.args.row.now.least b (further_at c.args.branch.now)) c.is_exact-is_exact.ensures) c.in_ok-push_ending.ensures.told) (begins_now _ _ _ _ c.in_err-put-2.ensures.begun))))
+    on_err _ (begins_later _ _ _ _ _ c.in_ok-put.ensures.told (begins_later _ _ _ _ _ (appends_as _ _ _ _ (ap (λ n. join_texts (codes ", ") (element_texts (elements n (element_of c.args.branch.now)))) c.least.ensures) c.in_ok-push_elements.ensures.told) (begins_later _ _ _ _ _ (appends_as _ _ _ _ (ap (λ n. ending_text n c.is_exact-is_exact.result (further_at c.args.branch.now)) c.least-2.ensures ∙ ap (λ b. ending_text c.args.row.now.least b (further_at c.args.branch.now)) c.is_exact-is_exact.ensures) c.in_ok-push_ending.ensures.told) (begins_now _ _ _ _ c.in_err-put-2.ensures.begun))))
 
 pub push_list-returns-in_err-push_longest-clause-begun : goal.push_list-returns-in_err-push_longest-clause-begun
 push_list-returns-in_err-push_longest-clause-begun g t c =
-    on_err _ (begins_later _ _ _ _ _ c.in_ok-put.ensures.told (begins_later _ _ _ _ _ (appends_as _ _ _ _ (ap (λ n. joined (codes ", ") (element_texts (elements n (element_of c.args.branch.now)))) c.least.ensures) c.in_ok-push_elements.ensures.told) (begins_later _ _ _ _ _ (appends_as _ _ _ _ (ap (λ n. ending_text n c.is_exact-is_exact.result (further_at c.args.branch.now)) c.least-2.ensures ∙ ap (λ b. ending_text c.args.row.now.least b (further_at c.args.branch.now)) c.is_exact-is_exact.ensures) c.in_ok-push_ending.ensures.told) (begins_later _ _ _ _ _ c.in_ok-put-2.ensures.told (begins_as _ _ _ _ (ap (λ m. longest_text m c.is_exact-is_exact.result) c.most.ensures ∙ ap (longest_text c.args.row.now.most) c.is_exact-is_exact.ensures) c.in_err-push_longest.ensures.begun)))))
+    on_err _ (begins_later _ _ _ _ _ c.in_ok-put.ensures.told (begins_later _ _ _ _ _ (appends_as _ _ _ _ (ap (λ n. join_texts (codes ", ") (element_texts (elements n (element_of c.args.branch.now)))) c.least.ensures) c.in_ok-push_elements.ensures.told) (begins_later _ _ _ _ _ (appends_as _ _ _ _ (ap (λ n. ending_text n c.is_exact-is_exact.result (further_at c.args.branch.now)) c.least-2.ensures ∙ ap (λ b. ending_text c.args.row.now.least b (further_at c.args.branch.now)) c.is_exact-is_exact.ensures) c.in_ok-push_ending.ensures.told) (begins_later _ _ _ _ _ c.in_ok-put-2.ensures.told (begins_as _ _ _ _ (ap (λ m. longest_text m c.is_exact-is_exact.result) c.most.ensures ∙ ap (longest_text c.args.row.now.most) c.is_exact-is_exact.ensures) c.in_err-push_longest.ensures.begun)))))
 
 pub push_list_in_front-returns-in_err-push_list-clause-begun : goal.push_list_in_front-returns-in_err-push_list-clause-begun
 push_list_in_front-returns-in_err-push_list-clause-begun g t c =
@@ -348,6 +348,6 @@ pub push_dots-returns-in_err-put-clause-begun : goal.push_dots-returns-in_err-pu
 push_dots-returns-in_err-put-clause-begun g t c =
     on_err _ (begins_later _ _ _ _ _ c.in_ok-separate.ensures.told (begins_now _ _ _ _ c.in_err-put.ensures.begun))
 
-pub push_dots-returns-in_err-push_told-clause-begun : goal.push_dots-returns-in_err-push_told-clause-begun
-push_dots-returns-in_err-push_told-clause-begun g t c =
-    on_err _ (begins_later _ _ _ _ _ c.in_ok-separate.ensures.told (begins_later _ _ _ _ _ c.in_ok-put.ensures.told c.in_err-push_told.ensures.begun))
+pub push_dots-returns-in_err-push_rest-clause-begun : goal.push_dots-returns-in_err-push_rest-clause-begun
+push_dots-returns-in_err-push_rest-clause-begun g t c =
+    on_err _ (begins_later _ _ _ _ _ c.in_ok-separate.ensures.told (begins_later _ _ _ _ _ c.in_ok-put.ensures.told c.in_err-push_rest.ensures.begun))

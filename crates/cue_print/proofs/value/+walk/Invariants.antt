@@ -2,8 +2,8 @@ use Rattle.std.proofs.Common.{◌+◌, ◌*◌, drop, nat_eq}
 use Rattle.std.specs.Prelude.{codes}
 use Rattle.cue_device.proofs.Telling.{IsTelling}
 use Rattle.cue_table.specs.Size.{tree_size}
-use Rattle.cue_print.specs.Printed.{elements, inside}
-use Rattle.cue_print.specs.Spelled.{joined, field_texts, element_texts}
+use Rattle.cue_print.specs.Printed.{elements, fields_of_labels}
+use Rattle.cue_print.specs.Spelled.{join_texts, field_texts, element_texts}
 use Rattle.cue_print.specs.Inner.Writing.{fields_at, element_of, beside_text}
 use Rattle.cue_print.proofs.Fields.{fields_of}
 use Rattle.cue_print.proofs.Joined.{left_joined}
@@ -63,8 +63,8 @@ decreases-push_outside g l = 13 * tree_size l.branch.now + 2
 abbrev pub decreases-push_elements : goal.decreases-push_elements
 decreases-push_elements g l = 13 * tree_size l.branch.now + 2
 
-abbrev pub decreases-push_told : goal.decreases-push_told
-decreases-push_told g l = 13 * tree_size l.branch.now + 1
+abbrev pub decreases-push_rest : goal.decreases-push_rest
+decreases-push_rest g l = 13 * tree_size l.branch.now + 1
 
 abbrev pub decreases-push_declared : goal.decreases-push_declared
 decreases-push_declared g l = 13 * tree_size l.branch.now + 1
@@ -75,7 +75,7 @@ decreases-push_element g l = 13 * tree_size l.branch.now + 1
 abbrev pub invariant-push_fields-loop-label : goal.invariant-push_fields-loop-label
 invariant-push_fields-loop-label g l =
     IsWriting l.branch l.label-iterator (g.S.TextSink.taken l.initial.out) (g.S.TextSink.taken l.out) (left_joined (codes ", ") l.is_first (field_texts (fields_of l.label-iterator)))
-    (joined (codes ", ") (field_texts (fields_at l.branch)))
+    (join_texts (codes ", ") (field_texts (fields_at l.branch)))
 
 abbrev pub invariant-push_outside-loop-label : goal.invariant-push_outside-loop-label
 invariant-push_outside-loop-label g l =
@@ -84,10 +84,10 @@ invariant-push_outside-loop-label g l =
 
 abbrev pub invariant-push_inside-loop-i : goal.invariant-push_inside-loop-i
 invariant-push_inside-loop-i g l =
-    IsTelling (g.S.TextSink.taken l.initial.out) (g.S.TextSink.taken l.out) (left_joined (codes ", ") (nat_eq l.i 0) (field_texts (inside (drop l.i l.labels) (fields_at l.branch))))
-    (joined (codes ", ") (field_texts (inside l.labels (fields_at l.branch))))
+    IsTelling (g.S.TextSink.taken l.initial.out) (g.S.TextSink.taken l.out) (left_joined (codes ", ") (nat_eq l.i 0) (field_texts (fields_of_labels (drop l.i l.labels) (fields_at l.branch))))
+    (join_texts (codes ", ") (field_texts (fields_of_labels l.labels (fields_at l.branch))))
 
 abbrev pub invariant-push_elements-loop-number : goal.invariant-push_elements-loop-number
 invariant-push_elements-loop-number g l =
     IsTelling (g.S.TextSink.taken l.initial.out) (g.S.TextSink.taken l.out) (left_joined (codes ", ") (nat_eq l.number 0) (elements_left l.number l.count (element_of l.branch)))
-    (joined (codes ", ") (element_texts (elements l.count (element_of l.branch))))
+    (join_texts (codes ", ") (element_texts (elements l.count (element_of l.branch))))

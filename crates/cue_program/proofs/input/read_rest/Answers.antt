@@ -8,7 +8,7 @@ loop-preserved g c =
     let next : c.loop.counter + 1 - 1 ≡ (c.loop.counter - 1) + 1 = omega (arith, c.loop.auto.counter) in
     record {
       room = c.in_ok-count.ensures.room ∙ c.loop.invariant.room;
-      read = goes_further g.K.Kept.keeps (to_come c.args.input.now) (to_come c.loop.input) (to_come c.read_piece.new.input)
+      read = goes_further g.K.InputReader.keeps (to_come c.args.input.now) (to_come c.loop.input) (to_come c.read_piece.new.input)
           c.args.kept.now c.loop.kept c.go_on.new.self (c.loop.counter - 1) (c.loop.counter + 1 - 1) c.in_ok-count.count
           c.read_piece.new.piece c.loop.invariant.read c.in_ok-count.ensures.read.0
           (c.in_ok-count.ensures.room ∙ (c.loop.invariant.room ∙ c.requires.room)) (search rules) c.in_ok-count.ensures.bound next

@@ -5,7 +5,7 @@ use Rattle.cue_program.proofs.run.read_file.Goals as goal
 
 pub returns-clause-fault : goal.returns-clause-fault
 returns-clause-fault g c =
-    let shelf = g.H.Shelf in
+    let shelf = g.H.FileSystem in
     let source = g.H.Opened.Source in
     let file = c.in_ok-file.file in
     let after = c.read_all.new.input in

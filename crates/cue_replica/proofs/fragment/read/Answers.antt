@@ -2,11 +2,11 @@ use Rattle.std.proofs.Common.{List, length, refl, arith, subst, inl}
 use Rattle.std.proofs.lemmas.Result.{err_from_is_err_and}
 use Rattle.cue_lattice.specs.Limits.{level_limit}
 use Rattle.cue_lex.specs.declared.token.Token.{Token}
-use Rattle.cue_syntax.specs.Grammar.{at_most, IsFile}
+use Rattle.cue_syntax.specs.Grammar.{at_most, IsFileTree}
 use Rattle.cue_syntax.specs.Files.{file_tree}
 use Rattle.cue_syntax.specs.declared.tree.File.{File}
 use Rattle.cue_scope.specs.Files.{entries_of}
-use Rattle.cue_row.specs.Row.{RowRefuses}
+use Rattle.cue_row.specs.Row.{RowRefusesQuestion}
 use Rattle.cue_table.specs.Refuses.{TableRefuses}
 use Rattle.cue_scope.specs.Meaning.{meant_text}
 use Rattle.cue_eval.specs.Evaluated.{HasAnswersOf}
@@ -27,11 +27,11 @@ returns-clause-long c more = absurd (omega (arith, more, lexed_short c.args.text
 
 pub returns-clause-answers : goal.returns-clause-answers
 returns-clause-answers c =
-    tree_answers c.args.text.now (file_tree c.in_ok-file.file) (TableRefuses RowRefuses c.in_ok-table.table)
+    tree_answers c.args.text.now (file_tree c.in_ok-file.file) (TableRefuses RowRefusesQuestion c.in_ok-table.table)
     (record {
       words = c.in_ok-tokens.tokens.items;
       lexed = c.in_ok-tokens.ensures.found;
-      spelled = subst (λ (ts : List Token). IsFile (at_most level_limit) ts (file_tree c.in_ok-file.file)) c.deref.ensures.value c.in_ok-file.ensures.spelled;
+      spelled = subst (λ (ts : List Token). IsFileTree (at_most level_limit) ts (file_tree c.in_ok-file.file)) c.deref.ensures.value c.in_ok-file.ensures.spelled;
     })
     (subst (λ (file : File). HasAnswersOf (meant_text (entries_of file)) c.in_ok-table.table) c.in_ok-resolved.ensures.resolved c.in_ok-table.ensures.answers)
 
@@ -56,7 +56,7 @@ returns-in_err-resolved-clause-refused c =
     (record {
       words = c.in_ok-tokens.tokens.items;
       lexed = c.in_ok-tokens.ensures.found;
-      spelled = subst (λ (ts : List Token). IsFile (at_most level_limit) ts (file_tree c.in_ok-file.file)) c.deref.ensures.value c.in_ok-file.ensures.spelled;
+      spelled = subst (λ (ts : List Token). IsFileTree (at_most level_limit) ts (file_tree c.in_ok-file.file)) c.deref.ensures.value c.in_ok-file.ensures.spelled;
     })
     c.in_err-resolved.ensures.refused)
 
@@ -71,7 +71,7 @@ returns-clause-legal c = (
   record {
     words = c.in_ok-tokens.tokens.items;
     lexed = c.in_ok-tokens.ensures.found;
-    spelled = subst (λ (ts : List Token). IsFile (at_most level_limit) ts (file_tree c.in_ok-file.file)) c.deref.ensures.value c.in_ok-file.ensures.spelled;
+    spelled = subst (λ (ts : List Token). IsFileTree (at_most level_limit) ts (file_tree c.in_ok-file.file)) c.deref.ensures.value c.in_ok-file.ensures.spelled;
   },
   c.in_ok-resolved.ensures.legal,
   c.utf8.text,

@@ -1,12 +1,12 @@
 use Rattle.std.proofs.Common.{◌<◌, ◌^◌, inr, refl, length, arith, subst, List, ℕ}
 use Rattle.std.proofs.lemmas.Option.{slice_get_read}
-use Rattle.cue_replica.specs.Inner.Events.{HappensAt, IsHeld}
-use Rattle.cue_replica.specs.World.{Takes}
+use Rattle.cue_replica.specs.Inner.Events.{HappensAtSite, IsHeld}
+use Rattle.cue_replica.specs.World.{TakesState}
 use Rattle.cue_replica.proofs.history.deliver_to.Goals as goal
 
 pub returns : goal.returns
 returns c =
-    let P : List ℕ → Type 0 = λ bytes. HappensAt (Takes bytes) c.args.replicas.now c.args.site c.take_at.new.replicas c.take_at.result in
+    let P : List ℕ → Type 0 = λ bytes. HappensAtSite (TakesState bytes) c.args.replicas.now c.args.site c.take_at.new.replicas c.take_at.result in
     let held : length c.as_slice.result.now < 2 ^ 64 = omega arith in
     inr (
       c.index-messages-message.result,

@@ -4,7 +4,7 @@ use Rattle.cue_replica.specs.Language.{Table}
 use Rattle.cue_lattice.specs.World.{Sets}
 use Rattle.cue_replica.specs.declared.world.Event.{Event}
 use Rattle.cue_replica.specs.declared.world.Outcome.{Outcome}
-use Rattle.cue_replica.specs.Inner.Events.{Agrees, Happens}
+use Rattle.cue_replica.specs.Inner.Events.{TablesAgree, EventHappens}
 use Rattle.cue_replica.proofs.Documents.{exact_sites}
 use Rattle.cue_replica.proofs.Runs.{IsSoFar, so_far_none, so_far_more, equal_sites, sites_told_alike, lent_whole}
 use Rattle.cue_replica.proofs.history.run.Goals as goal
@@ -29,7 +29,7 @@ loop-event-preserved c = record {
       let messages = c.loop-event.messages.items in
       let messages' = c.happen-outcome.new.messages.items in
       let outcome = c.happen-outcome.result in
-      let P : List Table → Type 0 = λ r. (sets : Sets) → Agrees r messages sets → Happens r messages event new messages' outcome sets in
+      let P : List Table → Type 0 = λ r. (sets : Sets) → TablesAgree r messages sets → EventHappens r messages event new messages' outcome sets in
       let more = so_far_more c.args.sites (take i c.args.events.now) event old new messages messages' c.loop-event.outcomes.items outcome
       c.loop-event.invariant.so_far (subst P c.deref_mut.ensures.value c.happen-outcome.ensures.happens) in
       let events_are : take (i + 1) c.args.events.now ≡ take i c.args.events.now ++ event ∷ [] =

@@ -6,7 +6,7 @@ use Rattle.cue_table.specs.Tree.{row_of}
 use Rattle.cue_table.specs.Inner.Walks.{found_smaller}
 use Rattle.serde_json.specs.Data.{null, no_items, no_members}
 use Rattle.cue_report.specs.Inner.Search.{least_at}
-use Rattle.cue_report.specs.Stream.{flow}
+use Rattle.cue_report.specs.Stream.{flow_of}
 use Rattle.cue_report.proofs.Breaking.{array_begun, item_begun, items_begun, member_begun, members_begun, no_items_begun, no_members_begun, none_begun, object_begun}
 use Rattle.cue_report.proofs.Descent.{Told}
 use Rattle.cue_report.proofs.DocumentMembers.{none_gathered, passed_index, passed_label, all_gathered}
@@ -86,14 +86,14 @@ pub write_elements-loop-number-preserved : goal.write_elements-loop-number-prese
 write_elements-loop-number-preserved g t c =
     let tree = c.args.branch.now in
     let so_far = c.loop-number.invariant in
-    let start = flow (g.S.TextSink.taken c.args.out.now) c.args.stream.now in
+    let start = flow_of (g.S.TextSink.taken c.args.out.now) c.args.stream.now in
     let below : c.loop-number.number < least_at (row_of tree) = omega (arith, c.least_of-number-end.ensures ∙ ap least_at c.row.ensures.row, c.loop-number-test.true) in
     elim c.match-find.branch [
       | write_elements-in-None+in_ok-token-in-None w ↦
-          subst (AreItemsSoFar tree (c.loop-number.number + 1) start) (λ i. flow (g.S.TextSink.taken (sym w.out-is i)) (sym w.stream-is i))
+          subst (AreItemsSoFar tree (c.loop-number.number + 1) start) (λ i. flow_of (g.S.TextSink.taken (sym w.out-is i)) (sym w.stream-is i))
           (next_null tree c.loop-number.number start _ _ so_far (sym c.find.ensures.branch ∙ w.in-None.is) w.in_ok-token-in-None.ensures.told)
       | write_elements-in-Some+in_ok-write_document-in-Some w ↦
-          subst (AreItemsSoFar tree (c.loop-number.number + 1) start) (λ i. flow (g.S.TextSink.taken (sym w.out-is i)) (sym w.stream-is i))
+          subst (AreItemsSoFar tree (c.loop-number.number + 1) start) (λ i. flow_of (g.S.TextSink.taken (sym w.out-is i)) (sym w.stream-is i))
           (next_item tree w.in-Some.child c.loop-number.number start _ _ so_far (sym c.find.ensures.branch ∙ w.in-Some.is) below w.in_ok-write_document-in-Some.ensures.told)
     ]
 

@@ -1,7 +1,7 @@
 use Rattle.std.proofs.Common.{arith, ◌≡◌, ◌<◌, length, get_or, ap, ◌∙◌, add-one}
 use Rattle.std.proofs.lemmas.List.{length-replicate}
 use Rattle.cue_scope.specs.Ordering.{graph_of}
-use Rattle.cue_scope.specs.Reached.{times}
+use Rattle.cue_scope.specs.Reached.{times_in_list}
 use Rattle.cue_scope.proofs.Nodes.{in_at, target_inside}
 use Rattle.cue_scope.proofs.Counting.{targets_more}
 use Rattle.cue_scope.proofs.counts.counts_of.Goals as goal
@@ -29,7 +29,7 @@ loop-node-preserved c =
       counted = λ i h.
           let more = targets_more (graph_of c.args.graph.now) c.args.from.now c.args.nodes.now i c.loop-node.node-index c.loop-node-test.true in
           let now = c.count-in-loop-node.ensures.counted i (omega arith) in
-          let named = ap (times i) c.targets.ensures in
+          let named = ap (times_in_list i) c.targets.ensures in
           let before = c.loop-node.invariant.counted i h in
           omega arith;
     })

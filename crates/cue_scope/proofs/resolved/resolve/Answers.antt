@@ -4,13 +4,13 @@ use Rattle.cue_syntax.specs.Syntax.{entries}
 use Rattle.cue_scope.specs.declared.resolved.Resolved.TheInside.{Inside}
 use Rattle.cue_scope.specs.Core.{is_scalar}
 use Rattle.cue_scope.specs.Definitions.{definitions}
-use Rattle.cue_scope.specs.Graph.{IsAcyclic, IsClosed, IsIn, IsOrder}
-use Rattle.cue_scope.specs.Kept.{all_of}
-use Rattle.cue_scope.specs.Meaning.{meaning}
+use Rattle.cue_scope.specs.Graph.{IsAcyclic, IsClosed, IsNodeIn, IsOrder}
+use Rattle.cue_scope.specs.Kept.{nodes_kept}
+use Rattle.cue_scope.specs.Meaning.{meaning_of_number}
 use Rattle.cue_scope.specs.Measures.{IsMeasured, as_literal, total_of_file}
 use Rattle.cue_scope.specs.Ordering.{graph_of}
-use Rattle.cue_scope.specs.Refusing.{IsLegal}
-use Rattle.cue_scope.specs.Reached.{IsReachedOrder, times, targets_of}
+use Rattle.cue_scope.specs.Refusing.{IsLegalTree}
+use Rattle.cue_scope.specs.Reached.{IsReachedOrder, times_in_list, targets_of}
 use Rattle.cue_scope.specs.Written.{written_uses}
 use Rattle.cue_scope.specs.Resolving.{Keeps}
 use Rattle.cue_scope.specs.Uses.{graph, uses_of_fields}
@@ -39,15 +39,15 @@ returns-in_err-check-clause-refused c =
     let refused = refuses_beyond es c.in_err-check.field-0.0 ordered (c.in_err-check.ensures.beyond (text_total es) measured) in
     rw (p.1, p.2, ← c.as_slice-declarations.ensures.value) (inr refused)
 
-pub kept-requires-clause-closed : goal.kept-requires-clause-closed
-kept-requires-clause-closed c =
-    let ds = all_of c.in_ok-definitions.definitions in
+pub keep_reached-requires-clause-closed : goal.keep_reached-requires-clause-closed
+keep_reached-requires-clause-closed c =
+    let ds = nodes_kept c.in_ok-definitions.definitions in
     let same : graph_of c.deref-3.result.now ≡ graph ds = ap graph_of c.deref-3.ensures.value ∙ c.in_ok-uses.ensures.graph in
     subst (λ z. IsClosed z) (sym same) (closed_graph ds)
 
-pub kept-requires-clause-inside : goal.kept-requires-clause-inside
-kept-requires-clause-inside c = λ i there.
-    let ds = all_of c.in_ok-definitions.definitions in
+pub keep_reached-requires-clause-inside : goal.keep_reached-requires-clause-inside
+keep_reached-requires-clause-inside c = λ i there.
+    let ds = nodes_kept c.in_ok-definitions.definitions in
     let es = entries c.as_slice-declarations.result.now in
     let same : graph_of c.deref-3.result.now ≡ graph ds = ap graph_of c.deref-3.ensures.value ∙ c.in_ok-uses.ensures.graph in
     let used = rw (c.deref-4.ensures.value, c.in_ok-uses.ensures.fields) at there in
@@ -57,13 +57,13 @@ kept-requires-clause-inside c = λ i there.
 
 pub counts_of-requires-clause-closed : goal.counts_of-requires-clause-closed
 counts_of-requires-clause-closed c =
-    let ds = all_of c.in_ok-definitions.definitions in
+    let ds = nodes_kept c.in_ok-definitions.definitions in
     let same : graph_of c.deref-6.result.now ≡ graph ds = ap graph_of c.deref-6.ensures.value ∙ c.in_ok-uses.ensures.graph in
     subst (λ z. IsClosed z) (sym same) (closed_graph ds)
 
 pub counts_of-requires-clause-inside : goal.counts_of-requires-clause-inside
 counts_of-requires-clause-inside c = λ i there.
-    let ds = all_of c.in_ok-definitions.definitions in
+    let ds = nodes_kept c.in_ok-definitions.definitions in
     let es = entries c.as_slice-declarations.result.now in
     let same : graph_of c.deref-6.result.now ≡ graph ds = ap graph_of c.deref-6.ensures.value ∙ c.in_ok-uses.ensures.graph in
     let used = rw (c.deref-7.ensures.value, c.in_ok-uses.ensures.fields) at there in
@@ -73,14 +73,14 @@ counts_of-requires-clause-inside c = λ i there.
 
 pub counts_of-requires-clause-nodes : goal.counts_of-requires-clause-nodes
 counts_of-requires-clause-nodes c = λ i there.
-    let ds = all_of c.in_ok-definitions.definitions in
+    let ds = nodes_kept c.in_ok-definitions.definitions in
     let es = entries c.as_slice-declarations.result.now in
     let same : graph_of c.deref-6.result.now ≡ graph ds = ap graph_of c.deref-6.ensures.value ∙ c.in_ok-uses.ensures.graph in
     let edges : graph_of c.deref-3.result.now ≡ graph ds = ap graph_of c.deref-3.ensures.value ∙ c.in_ok-uses.ensures.graph in
     let starts : c.deref-4.result.now ≡ uses_of_fields ds es = c.deref-4.ensures.value ∙ c.in_ok-uses.ensures.fields in
     let kept = subst (λ z. IsReachedOrder z (uses_of_fields ds es) c.in_ok-order-2.order.items) edges
     (subst (λ z. IsReachedOrder (graph_of c.deref-3.result.now) z c.in_ok-order-2.order.items) starts c.in_ok-order-2.ensures.kept) in
-    let below : i < length ds = reached_below ds es c.in_ok-order-2.order.items kept i (subst (λ z. IsIn i z) c.deref-8.ensures.value there) in
+    let below : i < length ds = reached_below ds es c.in_ok-order-2.order.items kept i (subst (λ z. IsNodeIn i z) c.deref-8.ensures.value there) in
     let l = ap length same in let a = length_graph ds ds in let b = length_graph_of c.deref-6.result.now in
     omega arith
 
@@ -91,7 +91,7 @@ returns-clause-legal c =
     let measured = subst (λ z. IsMeasured c.measure-whole.result (as_literal 1 (total_of_file z es))) all c.measure-whole.ensures in
     let acyclic = subst (λ z. IsAcyclic (graph z)) all c.in_ok-order.ensures.acyclic in
     let ordered = ordered_text es c.in_ok-definitions.ensures.unrepeated c.in_ok-uses.ensures.named acyclic in
-    subst (λ z. IsLegal (entries z)) c.as_slice-declarations.ensures.value (legal_text es ordered (c.in_ok-check.ensures.within (text_total es) measured))
+    subst (λ z. IsLegalTree (entries z)) c.as_slice-declarations.ensures.value (legal_text es ordered (c.in_ok-check.ensures.within (text_total es) measured))
 
 pub invariant_of-result : goal.invariant_of-result
 invariant_of-result c =
@@ -124,9 +124,9 @@ invariant_of-result c =
       defined = all;
       uses = meaning_is (definitions es) c.in_ok-order.order.items (subst (λ z. IsOrder (graph z) c.in_ok-order.order.items) all c.in_ok-order.ensures.ordered);
       measured = c.in_ok-measures.ensures.length ∙ ap length all;
-      scalar = λ i d h. (c.in_ok-measures.ensures.measured i d (subst (λ z. i < length z) (sym all) h)).scalar ∙ ap (λ z. is_scalar (meaning z i)) all;
+      scalar = λ i d h. (c.in_ok-measures.ensures.measured i d (subst (λ z. i < length z) (sym all) h)).scalar ∙ ap (λ z. is_scalar (meaning_of_number z i)) all;
       order = kept;
       counts = c.in_ok-counts.ensures.length ∙ many;
-      counted = λ i h. counts i (omega arith) ∙ ap (λ z. min (times i z) (2 ^ 64 - 1)) written;
+      counted = λ i h. counts i (omega arith) ∙ ap (λ z. min (times_in_list i z) (2 ^ 64 - 1)) written;
       size = counted;
     })

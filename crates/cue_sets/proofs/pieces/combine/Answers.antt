@@ -10,8 +10,8 @@ use Rattle.cue_sets.proofs.pieces.combine.Goals.{in-Some+in_ok-push, in_default}
 pub loop-pieces-init : goal.loop-pieces-init
 loop-pieces-init c = rw c.in_ok-pieces.ensures.items (IsCombined-none c.args.how c.args.left.now c.args.right.now c.requires.left c.requires.right)
 
-pub ahead-on_left-requires-clause-ends : goal.ahead-on_left-requires-clause-ends
-ahead-on_left-requires-clause-ends c =
+pub skip_before-on_left-requires-clause-ends : goal.skip_before-on_left-requires-clause-ends
+skip_before-on_left-requires-clause-ends c =
     let last = c.min-last.result in
     let a = c.run_from-a.result.last in
     let b = c.run_from-b.result.last in
@@ -19,8 +19,8 @@ ahead-on_left-requires-clause-ends c =
     let step = IsStep-of _ a b last fits.0 fits.1 c.run_from-a.ensures.forward c.run_from-b.ensures.forward c.min-last.ensures.value in
     EndsFrom-lower _ a c.loop-pieces.on_left.now c.run_from-a.ensures.ends (back_to last (after last) a step.to_left (after_is last step.fits c.if-last-eq9223372036854775807.false))
 
-pub ahead-on_right-requires-clause-ends : goal.ahead-on_right-requires-clause-ends
-ahead-on_right-requires-clause-ends c =
+pub skip_before-on_right-requires-clause-ends : goal.skip_before-on_right-requires-clause-ends
+skip_before-on_right-requires-clause-ends c =
     let last = c.min-last.result in
     let a = c.run_from-a.result.last in
     let b = c.run_from-b.result.last in
@@ -51,8 +51,8 @@ loop-pieces-preserved c =
     let i = c.loop-pieces.invariant in
     record {
       swept = IsSwept-both c.args.how c.args.left.now c.args.right.now c.loop-pieces.pieces.items c.loop-pieces.begun from c.loop-pieces.on_left.now c.loop-pieces.on_right.now a b last c.run_from-a.result.inside c.run_from-b.result.inside c.keeps.result c.go_on.new.pieces.items c.in_ok-begun.begun (after last) i step c.run_from-a.ensures.alike c.run_from-b.ensures.alike c.keeps.ensures c.in_ok-begun.ensures.0 c.in_ok-begun.ensures.1 next;
-      ahead_left = IsAhead-more from (after last) c.args.left.now c.loop-pieces.on_left.now c.ahead-on_left.result.now on i.ahead_left c.ahead-on_left.ensures.ascending c.ahead-on_left.ensures.ends c.ahead-on_left.ensures.members;
-      ahead_right = IsAhead-more from (after last) c.args.right.now c.loop-pieces.on_right.now c.ahead-on_right.result.now on i.ahead_right c.ahead-on_right.ensures.ascending c.ahead-on_right.ensures.ends c.ahead-on_right.ensures.members;
+      ahead_left = IsAhead-more from (after last) c.args.left.now c.loop-pieces.on_left.now c.skip_before-on_left.result.now on i.ahead_left c.skip_before-on_left.ensures.ascending c.skip_before-on_left.ensures.ends c.skip_before-on_left.ensures.members;
+      ahead_right = IsAhead-more from (after last) c.args.right.now c.loop-pieces.on_right.now c.skip_before-on_right.result.now on i.ahead_right c.skip_before-on_right.ensures.ascending c.skip_before-on_right.ensures.ends c.skip_before-on_right.ensures.members;
     }
 
 pub returns : goal.returns

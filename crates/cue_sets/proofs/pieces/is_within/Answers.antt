@@ -8,8 +8,8 @@ use Rattle.cue_sets.proofs.pieces.is_within.Goals as goal
 pub sweep-init : goal.sweep-init
 sweep-init c = IsInside-none c.args.left.now c.args.right.now c.requires.left c.requires.right
 
-pub ahead-on_left-requires-clause-ends : goal.ahead-on_left-requires-clause-ends
-ahead-on_left-requires-clause-ends c =
+pub skip_before-on_left-requires-clause-ends : goal.skip_before-on_left-requires-clause-ends
+skip_before-on_left-requires-clause-ends c =
     let last = c.min-last.result in
     let a = c.run_from-a.result.last in
     let b = c.run_from-b.result.last in
@@ -17,8 +17,8 @@ ahead-on_left-requires-clause-ends c =
     let step = IsStep-of _ a b last fits.0 fits.1 c.run_from-a.ensures.forward c.run_from-b.ensures.forward c.min-last.ensures.value in
     EndsFrom-lower _ a c.sweep.on_left.now c.run_from-a.ensures.ends (back_to last (after last) a step.to_left (after_is last step.fits c.if-last-eq9223372036854775807.false))
 
-pub ahead-on_right-requires-clause-ends : goal.ahead-on_right-requires-clause-ends
-ahead-on_right-requires-clause-ends c =
+pub skip_before-on_right-requires-clause-ends : goal.skip_before-on_right-requires-clause-ends
+skip_before-on_right-requires-clause-ends c =
     let last = c.min-last.result in
     let a = c.run_from-a.result.last in
     let b = c.run_from-b.result.last in
@@ -49,8 +49,8 @@ sweep-preserved c =
     let i = c.sweep.invariant in
     record {
       inside = AreInside-more c.args.left.now c.args.right.now from c.sweep.on_left.now c.sweep.on_right.now a b last c.run_from-a.result.inside c.run_from-b.result.inside (after last) i step c.run_from-a.ensures.alike c.run_from-b.ensures.alike (sym c.keeps.ensures ∙ c.if-keeps.false) next;
-      ahead_left = IsAhead-more from (after last) c.args.left.now c.sweep.on_left.now c.ahead-on_left.result.now on i.ahead_left c.ahead-on_left.ensures.ascending c.ahead-on_left.ensures.ends c.ahead-on_left.ensures.members;
-      ahead_right = IsAhead-more from (after last) c.args.right.now c.sweep.on_right.now c.ahead-on_right.result.now on i.ahead_right c.ahead-on_right.ensures.ascending c.ahead-on_right.ensures.ends c.ahead-on_right.ensures.members;
+      ahead_left = IsAhead-more from (after last) c.args.left.now c.sweep.on_left.now c.skip_before-on_left.result.now on i.ahead_left c.skip_before-on_left.ensures.ascending c.skip_before-on_left.ensures.ends c.skip_before-on_left.ensures.members;
+      ahead_right = IsAhead-more from (after last) c.args.right.now c.sweep.on_right.now c.skip_before-on_right.result.now on i.ahead_right c.skip_before-on_right.ensures.ascending c.skip_before-on_right.ensures.ends c.skip_before-on_right.ensures.members;
     }
 
 pub returns-then-last-eq9223372036854775807 : goal.returns-then-last-eq9223372036854775807

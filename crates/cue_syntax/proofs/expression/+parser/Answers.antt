@@ -5,15 +5,15 @@ use Rattle.cue_lex.specs.declared.punctuation.Punctuation.TheVariants as points
 use Rattle.cue_syntax.specs.declared.tree.Expr.{Expr}
 use Rattle.cue_syntax.specs.declared.tree.Rest.TheVariants as rests
 use Rattle.cue_syntax.specs.declared.tree.Term.{Term}
-use Rattle.cue_syntax.specs.Syntax.{no_elements, branch, parenthesis, struct, close, list, conjunction, disjunction, elements, branches, entries, expression, rest_tree}
-use Rattle.cue_syntax.specs.Grammar.{IsExpression, IsTermOf, IsEntry, AreElements, AreEntries, AreNested}
+use Rattle.cue_syntax.specs.Syntax.{no_elements, branch, parenthesis, struct, close, list, conjunction, disjunction, elements_of_list, branches_of_list, entries, expression, rest_of_tree}
+use Rattle.cue_syntax.specs.Grammar.{IsExpression, IsTermOf, IsEntry, AreElementTokens, AreEntries, AreNested}
 use Rattle.cue_syntax.proofs.ReadingsJoin.{reads_one_at, reads_none}
 use Rattle.cue_syntax.proofs.RowsGrow.{nested_pushed}
 use Rattle.cue_syntax.proofs.Views.{view-term, view-Parenthesis, view-Struct, view-Close, view-Conjunction, view-Disjunction, view-Field, view-Definition, view-List, view-Ends}
 use Rattle.cue_syntax.proofs.PartsMakeTrees.{term_is, AreTerms, AreParts, Between, terms_first, terms_next, terms_more, between_pushed, disjunction_is, parts_first, parts_next, parts_more, conjunction_is, elements_next, entries_next, braced_is, struct_is, close_is, parenthesis_is, list_is, open_list_is, field_is, definition_is}
-use Rattle.cue_syntax.specs.Viability.{StandsSign, BeginsLabel}
+use Rattle.cue_syntax.specs.Viability.{IsSignAt, BeginsLabel}
 use Rattle.cue_syntax.specs.Inner.Viability.{behind_begun}
-use Rattle.cue_syntax.specs.Begun.{BeginsEntry}
+use Rattle.cue_syntax.specs.Begun.{MayBeginEntry}
 use Rattle.cue_syntax.proofs.TextsBeginSo.{begun, begins_always, no_memory, read_stands}
 use Rattle.cue_syntax.specs.Recogniser as goals
 use Rattle.cue_syntax.proofs.MovesAndStops.{end_then, moves_then, moves_more, follows_behind, refused_behind, refused_end, halted_behind, if_ok}
@@ -43,16 +43,16 @@ close-returns-clause-spelled t c =
     let b = c.in_ok-rest.rest.rest.now in
     let inner = c.in_ok-row.row.comma in
     let comma = c.trailing_comma-comma.result.0 in
-    subst (λ e. IsExpression c.args.room a e b) (sym (view-Close c.in_ok-from.from c.fitted.result inner comma))
-    (subst (λ z. IsExpression c.args.room a (close c.in_ok-from.from (entries z) inner comma) b) (sym c.fitted.ensures)
+    subst (λ e. IsExpression c.args.room a e b) (sym (view-Close c.in_ok-from.from c.drop_spare_room.result inner comma))
+    (subst (λ z. IsExpression c.args.room a (close c.in_ok-from.from (entries z) inner comma) b) (sym c.drop_spare_room.ensures)
     (close_is c.in_ok-inside.ensures.left c.in_ok-last.ensures.left c.in_ok-from.ensures.reads c.in_ok-open.ensures.reads c.in_ok-brace.ensures.reads c.in_ok-row.ensures.spelled c.trailing_comma-comma.ensures.reads c.in_ok-rest.ensures.reads))
 
 pub structure-returns-clause-spelled : goal.structure-returns-clause-spelled
 structure-returns-clause-spelled t c =
     let a = c.args.cursor.rest.now in
     let b = c.in_ok-row.rest.rest.now in
-    subst (λ e. IsExpression c.args.room a e b) (sym (view-Struct c.fitted.result c.in_ok-row.row.comma))
-    (subst (λ z. IsExpression c.args.room a (struct (entries z) c.in_ok-row.row.comma) b) (sym c.fitted.ensures)
+    subst (λ e. IsExpression c.args.room a e b) (sym (view-Struct c.drop_spare_room.result c.in_ok-row.row.comma))
+    (subst (λ z. IsExpression c.args.room a (struct (entries z) c.in_ok-row.row.comma) b) (sym c.drop_spare_room.ensures)
     (struct_is c.in_ok-inside.ensures.left c.in_ok-open.ensures.reads c.in_ok-row.ensures.spelled))
 
 pub parts-parts-init : goal.parts-parts-init
@@ -87,7 +87,7 @@ parts-returns-in-None-clause-spelled t c =
     let b = c.in_ok-next.rest.rest.now in
     let pushed : c.push-in-parts.new.values.items ≡ c.parts.parts.items ++ c.in_ok-next.next ∷ [] = search rules in
     subst (λ e. IsExpression c.args.room a e b) (sym (view-Conjunction c.push-in-parts.new.values))
-    (subst (λ (z : List Expr). IsExpression c.args.room a (conjunction (elements z)) b) (sym pushed)
+    (subst (λ (z : List Expr). IsExpression c.args.room a (conjunction (elements_of_list z)) b) (sym pushed)
     (conjunction_is (parts_next c.parts.parts.items c.in_ok-next.next c.parts.invariant.parts c.in_ok-next.ensures.spelled c.in_ok-next.ensures.unary)))
 
 pub disjunction-terms-init : goal.disjunction-terms-init
@@ -121,7 +121,7 @@ disjunction-returns-in-None-clause-spelled t c =
     let b = c.in_ok-next.rest.rest.now in
     let pushed : c.push-in-terms.new.values.items ≡ c.terms.terms.items ++ c.in_ok-next.next ∷ [] = search rules in
     subst (λ e. IsExpression c.args.room a e b) (sym (view-Disjunction c.push-in-terms.new.values))
-    (subst (λ (z : List Term). IsExpression c.args.room a (disjunction (branches z)) b) (sym pushed)
+    (subst (λ (z : List Term). IsExpression c.args.room a (disjunction (branches_of_list z)) b) (sym pushed)
     (disjunction_is (terms_next c.terms.terms.items c.in_ok-next.next c.terms.invariant.terms c.in_ok-next.ensures.spelled)))
 
 pub declarations-declarations-preserved : goal.declarations-declarations-preserved
@@ -163,14 +163,14 @@ elements-elements-preserved t c =
     let pushed : c.push.new.values.items ≡ l.items.items ++ c.in_ok-element.element ∷ [] = search rules in
     record {
       shorter = omega (arith, c.in_ok-element.ensures.further.shorter, c.trailing_comma.ensures.onward.no_longer);
-      row = subst (λ z. AreElements c.args.room c.args.cursor.rest.now (elements z) c.trailing_comma.result.0 c.trailing_comma.result.1.rest.now) (sym pushed)
+      row = subst (λ z. AreElementTokens c.args.room c.args.cursor.rest.now (elements_of_list z) c.trailing_comma.result.0 c.trailing_comma.result.1.rest.now) (sym pushed)
           (elements_next l.items.items l.comma c.in_ok-element.element c.trailing_comma.result.0 l.invariant.row l.invariant.between c.in_ok-element.ensures.spelled c.trailing_comma.ensures.reads);
       between = subst (λ z. Between c.trailing_comma.result.0 z) (sym pushed)
           (between_pushed c.trailing_comma.result.0 l.items.items c.in_ok-element.element c.if-not-comma.false);
       end = c.trailing_comma.ensures.onward.end ∙ c.in_ok-element.ensures.further.end ∙ l.invariant.end;
       moves =
-          let close : ¬ StandsSign (kinds.Mark points.CloseBracket) l.rest.rest.now = search rules in
-          let dots : ¬ StandsSign (kinds.Mark points.Ellipsis) l.rest.rest.now = search rules in
+          let close : ¬ IsSignAt (kinds.Mark points.CloseBracket) l.rest.rest.now = search rules in
+          let dots : ¬ IsSignAt (kinds.Mark points.Ellipsis) l.rest.rest.now = search rules in
           moves_then l.invariant.moves (moves_then (element_moves close dots c.in_ok-element.ensures.moves) (element_next c.trailing_comma.result.0 c.if-not-comma.false (omega arith) c.trailing_comma.ensures.reads));
       leads = inr (follows_behind (end_then l.invariant.moves.inside c.in_ok-element.ensures.moves.inside) (follows_comma c.trailing_comma.result.0 c.if-not-comma.false c.trailing_comma.ensures.reads));
     }
@@ -179,7 +179,7 @@ pub elements-returns-then-not-comma-clause-spelled : goal.elements-returns-then-
 elements-returns-then-not-comma-clause-spelled t c =
     let l = c.elements in
     let pushed : c.push.new.values.items ≡ l.items.items ++ c.in_ok-element.element ∷ [] = search rules in
-    subst (λ z. AreElements c.args.room c.args.cursor.rest.now (elements z) c.trailing_comma.result.0 c.trailing_comma.result.1.rest.now) (sym pushed)
+    subst (λ z. AreElementTokens c.args.room c.args.cursor.rest.now (elements_of_list z) c.trailing_comma.result.0 c.trailing_comma.result.1.rest.now) (sym pushed)
     (elements_next l.items.items l.comma c.in_ok-element.element c.trailing_comma.result.0 l.invariant.row l.invariant.between c.in_ok-element.ensures.spelled c.trailing_comma.ensures.reads)
 
 pub field-returns-clause-spelled : goal.field-returns-clause-spelled
@@ -198,27 +198,27 @@ definition-returns-clause-spelled t c =
 pub list-returns-in-Some-clause-spelled : goal.list-returns-in-Some-clause-spelled
 list-returns-in-Some-clause-spelled t c =
     let items = c.in_ok-row.row.items in
-    let which : (c.in_ok-row.row.comma ≡ true) ⊎ (elements items.items ≡ no_elements) =
+    let which : (c.in_ok-row.row.comma ≡ true) ⊎ (elements_of_list items.items ≡ no_elements) =
     elim c.then-row.branch [
       | list-then-row-via-then-row w ↦ inl w.if-row.true
       | list-then-row-via-else-row+then-is_empty w ↦
           let zero : length items.items ≡ 0 = grind (arith, items.ok.0) in
-          inr (ap elements (nil_from_length items.items zero))
+          inr (ap elements_of_list (nil_from_length items.items zero))
     ] in
     subst (λ e. IsExpression c.args.room c.args.cursor.rest.now e c.in_ok-rest.rest.rest.now)
-    (sym (view-List items c.in_ok-further.further c.trailing_comma-comma.result.0))
-    (open_list_is (rest_tree c.in_ok-further.further) c.in_ok-inside.ensures.left c.in_ok-open.ensures.reads c.in_ok-row.ensures.spelled which c.in-Some.ensures.reads c.in_ok-further.ensures.spelled c.trailing_comma-comma.ensures.reads c.in_ok-rest.ensures.reads)
+    (sym (view-List items c.in_ok-list_rest.further c.trailing_comma-comma.result.0))
+    (open_list_is (rest_of_tree c.in_ok-list_rest.further) c.in_ok-inside.ensures.left c.in_ok-open.ensures.reads c.in_ok-row.ensures.spelled which c.in-Some.ensures.reads c.in_ok-list_rest.ensures.spelled c.trailing_comma-comma.ensures.reads c.in_ok-rest.ensures.reads)
 
 pub list-returns-clause-spelled : goal.list-returns-clause-spelled
 list-returns-clause-spelled t c =
     subst (λ e. IsExpression c.args.room c.args.cursor.rest.now e c.in_ok-rest-2.rest.rest.now)
-    (sym (view-List c.in_ok-row.row.items rests.Ends c.in_ok-row.row.comma ∙ ap (λ z. list (elements c.in_ok-row.row.items.items) z c.in_ok-row.row.comma) view-Ends))
+    (sym (view-List c.in_ok-row.row.items rests.Ends c.in_ok-row.row.comma ∙ ap (λ z. list (elements_of_list c.in_ok-row.row.items.items) z c.in_ok-row.row.comma) view-Ends))
     (list_is c.in_ok-inside.ensures.left c.in_ok-open.ensures.reads c.in_ok-row.ensures.spelled c.in_ok-rest-2.ensures.reads)
 
-pub further-returns-in_err-each-clause-refused : goal.further-returns-in_err-each-clause-refused
-further-returns-in_err-each-clause-refused t c =
-    let comma : ¬ StandsSign (kinds.Mark points.Comma) c.args.cursor.rest.now = search rules in
-    let close : ¬ StandsSign (kinds.Mark points.CloseBracket) c.args.cursor.rest.now = search rules in
+pub list_rest-returns-in_err-each-clause-refused : goal.list_rest-returns-in_err-each-clause-refused
+list_rest-returns-in_err-each-clause-refused t c =
+    let comma : ¬ IsSignAt (kinds.Mark points.Comma) c.args.cursor.rest.now = search rules in
+    let close : ¬ IsSignAt (kinds.Mark points.CloseBracket) c.args.cursor.rest.now = search rules in
     passed_on c.from_residual.result c.from_residual.ensures.1 (dots_refused comma close c.in_err-each.ensures.refused)
 
 pub conjunction-returns-in_err-first-clause-refused : goal.conjunction-returns-in_err-first-clause-refused
@@ -229,7 +229,7 @@ parts-returns-in_err-next-clause-refused t c = passed_on c.from_residual-in_err-
 
 pub parts-returns-in-None-clause-moves : goal.parts-returns-in-None-clause-moves
 parts-returns-in-None-clause-moves t c =
-    let lacks : ¬ StandsSign (kinds.Mark points.Ampersand) c.in_ok-next.rest.rest.now = search rules in
+    let lacks : ¬ IsSignAt (kinds.Mark points.Ampersand) c.in_ok-next.rest.rest.now = search rules in
     moves_then c.parts.invariant.moves (moves_then (part_moves c.in_ok-next.ensures.moves) (parts_end lacks))
 
 pub expression-returns-in-Some-clause-moves : goal.expression-returns-in-Some-clause-moves
@@ -240,33 +240,33 @@ compound-returns-in_err-marked-clause-refused t c = passed_on c.from_residual.re
 
 pub compound-returns-in_err-first-clause-refused : goal.compound-returns-in_err-first-clause-refused
 compound-returns-in_err-first-clause-refused t c =
-    let lacks : ¬ StandsSign (kinds.Mark points.Star) c.args.cursor.rest.now = search rules in
+    let lacks : ¬ IsSignAt (kinds.Mark points.Star) c.args.cursor.rest.now = search rules in
     passed_on c.from_residual-in_err-first.result c.from_residual-in_err-first.ensures.1 (alone_refused lacks c.in_err-first.ensures.refused)
 
 pub compound-returns-then-ends_operand-clause-moves : goal.compound-returns-then-ends_operand-clause-moves
 compound-returns-then-ends_operand-clause-moves t c =
-    let lacks : ¬ StandsSign (kinds.Mark points.Star) c.args.cursor.rest.now = search rules in
+    let lacks : ¬ IsSignAt (kinds.Mark points.Star) c.args.cursor.rest.now = search rules in
     alone_moves lacks (c.ends_operand.ensures c.if-ends_operand.true) c.in_ok-first.ensures.moves
 
-pub joined-disjunction-requires : goal.joined-disjunction-requires
-joined-disjunction-requires t c =
+pub after_operand-disjunction-requires : goal.after_operand-disjunction-requires
+after_operand-disjunction-requires t c =
     let a = c.args.cursor.rest.now in
     let b = c.in_ok-value.rest.rest.now in
     let first : IsTermOf c.args.room a (branch false c.place-from.result (expression c.in_ok-value.value)) b =
     term_is false c.place-from.result reads_none c.place-from.ensures.is c.in_ok-value.ensures.spelled c.in_ok-value.ensures.conjunct in
     (omega (arith, c.decreases), (subst (λ z. IsTermOf c.args.room a z b) (sym (view-term _)) first, (c.in_ok-value.ensures.further, (moves_then (unmarked_moves c.requires.unmarked) c.in_ok-value.ensures.moves, (λ e. (let f : false ≡ true = e in cc), λ stands. absurd (c.requires.unmarked stands))))))
 
-pub joined-returns-in_err-value-clause-refused : goal.joined-returns-in_err-value-clause-refused
-joined-returns-in_err-value-clause-refused t c = passed_on c.from_residual.result c.from_residual.ensures.1 (first_refused (refused_behind (unmarked_moves c.requires.unmarked) (λ begins. inl (refl, tt)) c.in_err-value.ensures.refused))
+pub after_operand-returns-in_err-value-clause-refused : goal.after_operand-returns-in_err-value-clause-refused
+after_operand-returns-in_err-value-clause-refused t c = passed_on c.from_residual.result c.from_residual.ensures.1 (first_refused (refused_behind (unmarked_moves c.requires.unmarked) (λ begins. inl (refl, tt)) c.in_err-value.ensures.refused))
 
 pub disjunction-returns-then-first-clause-refused : goal.disjunction-returns-then-first-clause-refused
 disjunction-returns-then-first-clause-refused t c =
-    let lacks : ¬ StandsSign (kinds.Mark points.Bar) c.args.rest.rest.now = search rules in
+    let lacks : ¬ IsSignAt (kinds.Mark points.Bar) c.args.rest.rest.now = search rules in
     halted_behind (first_moves c.args.first.marked c.requires.marked.0 c.requires.marked.1 c.requires.moves) c.requires.further.end c.syntax.ensures (first_halts c.args.first.marked c.if-first.true lacks)
 
 pub disjunction-returns-in_default-clause-moves : goal.disjunction-returns-in_default-clause-moves
 disjunction-returns-in_default-clause-moves t c =
-    let lacks : ¬ StandsSign (kinds.Mark points.Bar) c.args.rest.rest.now = search rules in
+    let lacks : ¬ IsSignAt (kinds.Mark points.Bar) c.args.rest.rest.now = search rules in
     moves_then (first_moves c.args.first.marked c.requires.marked.0 c.requires.marked.1 c.requires.moves) (first_end c.args.first.marked c.if-first.false lacks)
 
 pub disjunction-returns-in_err-next-clause-refused : goal.disjunction-returns-in_err-next-clause-refused
@@ -274,7 +274,7 @@ disjunction-returns-in_err-next-clause-refused t c = passed_on c.from_residual-i
 
 pub disjunction-returns-in-None-clause-moves : goal.disjunction-returns-in-None-clause-moves
 disjunction-returns-in-None-clause-moves t c =
-    let lacks : ¬ StandsSign (kinds.Mark points.Bar) c.in_ok-next.rest.rest.now = search rules in
+    let lacks : ¬ IsSignAt (kinds.Mark points.Bar) c.in_ok-next.rest.rest.now = search rules in
     moves_then c.terms.invariant.moves (moves_then (term_moves c.in_ok-next.ensures.moves) (terms_end lacks))
 
 pub term-returns-in_err-value-in-Some-clause-refused : goal.term-returns-in_err-value-in-Some-clause-refused
@@ -282,7 +282,7 @@ term-returns-in_err-value-in-Some-clause-refused t c = passed_on c.from_residual
 
 pub term-returns-in_err-value-in-None-clause-refused : goal.term-returns-in_err-value-in-None-clause-refused
 term-returns-in_err-value-in-None-clause-refused t c =
-    let lacks : ¬ StandsSign (kinds.Mark points.Star) c.args.cursor.rest.now = search rules in
+    let lacks : ¬ IsSignAt (kinds.Mark points.Star) c.args.cursor.rest.now = search rules in
     passed_on c.from_residual-in_err-value-in-None.result c.from_residual-in_err-value-in-None.ensures.1 (refused_behind (unmarked_moves lacks) (λ begins. inl (refl, tt)) c.in_err-value-in-None.ensures.refused)
 
 pub term-returns-in_ok-value-in-Some-clause-moves : goal.term-returns-in_ok-value-in-Some-clause-moves
@@ -351,15 +351,15 @@ declarations-returns-then-not-comma-clause-moves t c =
 
 pub elements-returns-in_err-element-clause-refused : goal.elements-returns-in_err-element-clause-refused
 elements-returns-in_err-element-clause-refused t c =
-    let close : ¬ StandsSign (kinds.Mark points.CloseBracket) c.elements.rest.rest.now = search rules in
-    let dots : ¬ StandsSign (kinds.Mark points.Ellipsis) c.elements.rest.rest.now = search rules in
+    let close : ¬ IsSignAt (kinds.Mark points.CloseBracket) c.elements.rest.rest.now = search rules in
+    let dots : ¬ IsSignAt (kinds.Mark points.Ellipsis) c.elements.rest.rest.now = search rules in
     passed_on c.from_residual.result c.from_residual.ensures.1 (refused_behind c.elements.invariant.moves (λ begins. c.elements.invariant.leads) (refused_end c.elements.invariant.end (element_refused close dots c.in_err-element.ensures.refused)))
 
 pub elements-returns-then-not-comma-clause-moves : goal.elements-returns-then-not-comma-clause-moves
 elements-returns-then-not-comma-clause-moves t c =
     let l = c.elements in
-    let close : ¬ StandsSign (kinds.Mark points.CloseBracket) c.elements.rest.rest.now = search rules in
-    let dots : ¬ StandsSign (kinds.Mark points.Ellipsis) c.elements.rest.rest.now = search rules in
+    let close : ¬ IsSignAt (kinds.Mark points.CloseBracket) c.elements.rest.rest.now = search rules in
+    let dots : ¬ IsSignAt (kinds.Mark points.Ellipsis) c.elements.rest.rest.now = search rules in
     let pushed : c.push.new.values.items ≡ l.items.items ++ c.in_ok-element.element ∷ [] = search rules in
     row_ends goals.elements goals.more_elements l.items.items c.in_ok-element.element c.if-not-comma.true pushed c.trailing_comma.ensures.reads
     (moves_then l.invariant.moves (element_moves close dots c.in_ok-element.ensures.moves))
@@ -381,11 +381,11 @@ list-returns-in_err-rest-clause-refused t c =
           inr (nil_from_length items.items zero)
     ] in
     passed_on c.from_residual-in_err-rest.result c.from_residual-in_err-rest.ensures.1
-    (halted_behind (moves_then (moves_then (list_opens c.in_ok-inside.inside c.in_ok-inside.ensures.left c.in_ok-open.ensures.reads c.in_ok-row.ensures.moves) (moves_then (open_ellipsis c.in_ok-row.row.comma items.items (omega (arith, c.in_ok-inside.ensures.left)) which c.in-Some.ensures.reads) (moves_more (omega (arith, c.in_ok-inside.ensures.left)) c.in_ok-further.ensures.moves))) (ellipsis_comma c.trailing_comma-comma.result.0 (omega (arith, c.in_ok-inside.ensures.left)) c.trailing_comma-comma.ensures.reads)) (c.trailing_comma-comma.ensures.onward.end ∙ c.in_ok-further.ensures.onward.end ∙ c.in-Some.ensures.further.end ∙ c.in_ok-row.ensures.onward.end ∙ c.in_ok-open.ensures.further.end)
+    (halted_behind (moves_then (moves_then (list_opens c.in_ok-inside.inside c.in_ok-inside.ensures.left c.in_ok-open.ensures.reads c.in_ok-row.ensures.moves) (moves_then (open_ellipsis c.in_ok-row.row.comma items.items (omega (arith, c.in_ok-inside.ensures.left)) which c.in-Some.ensures.reads) (moves_more (omega (arith, c.in_ok-inside.ensures.left)) c.in_ok-list_rest.ensures.moves))) (ellipsis_comma c.trailing_comma-comma.result.0 (omega (arith, c.in_ok-inside.ensures.left)) c.trailing_comma-comma.ensures.reads)) (c.trailing_comma-comma.ensures.onward.end ∙ c.in_ok-list_rest.ensures.onward.end ∙ c.in-Some.ensures.further.end ∙ c.in_ok-row.ensures.onward.end ∙ c.in_ok-open.ensures.further.end)
     c.in_err-rest.ensures.refused (ellipsis_halts c.trailing_comma-comma.result.0 c.trailing_comma-comma.ensures.reads c.trailing_comma-comma.ensures.missing c.in_err-rest.ensures.missing))
 
-pub list-returns-in_err-further-clause-refused : goal.list-returns-in_err-further-clause-refused
-list-returns-in_err-further-clause-refused t c =
+pub list-returns-in_err-list_rest-clause-refused : goal.list-returns-in_err-list_rest-clause-refused
+list-returns-in_err-list_rest-clause-refused t c =
     let items = c.in_ok-row.row.items in
     let which : (c.in_ok-row.row.comma ≡ true) ⊎ (items.items ≡ []) =
     elim c.then-row.branch [
@@ -394,10 +394,10 @@ list-returns-in_err-further-clause-refused t c =
           let zero : length items.items ≡ 0 = grind (arith, items.ok.0) in
           inr (nil_from_length items.items zero)
     ] in
-    passed_on c.from_residual-in_err-further.result c.from_residual-in_err-further.ensures.1
+    passed_on c.from_residual-in_err-list_rest.result c.from_residual-in_err-list_rest.ensures.1
     (refused_behind (moves_then (list_opens c.in_ok-inside.inside c.in_ok-inside.ensures.left c.in_ok-open.ensures.reads c.in_ok-row.ensures.moves) (open_ellipsis c.in_ok-row.row.comma items.items (omega (arith, c.in_ok-inside.ensures.left)) which c.in-Some.ensures.reads))
     (λ begins. inr (follows_behind (list_opens c.in_ok-inside.inside c.in_ok-inside.ensures.left c.in_ok-open.ensures.reads c.in_ok-row.ensures.moves).inside (follows_mark points.Ellipsis c.in-Some.ensures.reads)))
-    (refused_end (c.in-Some.ensures.further.end ∙ c.in_ok-row.ensures.onward.end ∙ c.in_ok-open.ensures.further.end) (refused_inside c.in_ok-inside.inside c.in_ok-inside.ensures.left c.in_err-further.ensures.refused)))
+    (refused_end (c.in-Some.ensures.further.end ∙ c.in_ok-row.ensures.onward.end ∙ c.in_ok-open.ensures.further.end) (refused_inside c.in_ok-inside.inside c.in_ok-inside.ensures.left c.in_err-list_rest.ensures.refused)))
 
 pub list-returns-in-Some-clause-moves : goal.list-returns-in-Some-clause-moves
 list-returns-in-Some-clause-moves t c =
@@ -409,7 +409,7 @@ list-returns-in-Some-clause-moves t c =
           let zero : length items.items ≡ 0 = grind (arith, items.ok.0) in
           inr (nil_from_length items.items zero)
     ] in
-    moves_then (moves_then (moves_then (list_opens c.in_ok-inside.inside c.in_ok-inside.ensures.left c.in_ok-open.ensures.reads c.in_ok-row.ensures.moves) (moves_then (open_ellipsis c.in_ok-row.row.comma items.items (omega (arith, c.in_ok-inside.ensures.left)) which c.in-Some.ensures.reads) (moves_more (omega (arith, c.in_ok-inside.ensures.left)) c.in_ok-further.ensures.moves))) (ellipsis_comma c.trailing_comma-comma.result.0 (omega (arith, c.in_ok-inside.ensures.left)) c.trailing_comma-comma.ensures.reads)) (ellipsis_closes c.trailing_comma-comma.result.0 c.in_ok-rest.ensures.reads)
+    moves_then (moves_then (moves_then (list_opens c.in_ok-inside.inside c.in_ok-inside.ensures.left c.in_ok-open.ensures.reads c.in_ok-row.ensures.moves) (moves_then (open_ellipsis c.in_ok-row.row.comma items.items (omega (arith, c.in_ok-inside.ensures.left)) which c.in-Some.ensures.reads) (moves_more (omega (arith, c.in_ok-inside.ensures.left)) c.in_ok-list_rest.ensures.moves))) (ellipsis_comma c.trailing_comma-comma.result.0 (omega (arith, c.in_ok-inside.ensures.left)) c.trailing_comma-comma.ensures.reads)) (ellipsis_closes c.trailing_comma-comma.result.0 c.in_ok-rest.ensures.reads)
 
 pub list-returns-in_err-rest-2-clause-refused : goal.list-returns-in_err-rest-2-clause-refused
 list-returns-in_err-rest-2-clause-refused t c =
@@ -441,10 +441,10 @@ declaration-returns-in-Some-clause-begins t c = inl (read_stands _ _ _ c.in-Some
 pub declaration-returns-then-begins_label-clause-begins : goal.declaration-returns-then-begins_label-clause-begins
 declaration-returns-then-begins_label-clause-begins t c =
     let label : BeginsLabel c.args.cursor.rest.now = search rules in
-    begins_always c.field.result (BeginsEntry c.args.cursor.rest.now) (inr (inl label))
+    begins_always c.field.result (MayBeginEntry c.args.cursor.rest.now) (inr (inl label))
 
 pub declaration-returns-then-begins_definition-clause-begins : goal.declaration-returns-then-begins_definition-clause-begins
-declaration-returns-then-begins_definition-clause-begins t c = begins_always c.definition.result (BeginsEntry c.args.cursor.rest.now) (inr (inr (c.begins_definition.ensures.begins c.if-begins_definition.true)))
+declaration-returns-then-begins_definition-clause-begins t c = begins_always c.definition.result (MayBeginEntry c.args.cursor.rest.now) (inr (inr (c.begins_definition.ensures.begins c.if-begins_definition.true)))
 
 pub declaration-returns-clause-begins : goal.declaration-returns-clause-begins
 declaration-returns-clause-begins t c = λ lacks. no_memory c.args.cursor.end (behind_begun c.args.top c.args.cursor.rest.now) c.no_declaration.ensures lacks
@@ -457,7 +457,7 @@ declaration-returns-then-begins_label-clause-moves t c = if_ok c.field.result (�
 
 pub declaration-returns-clause-refused : goal.declaration-returns-clause-refused
 declaration-returns-clause-refused t c =
-    let dots : ¬ StandsSign (kinds.Mark points.Ellipsis) c.args.cursor.rest.now = search rules in
+    let dots : ¬ IsSignAt (kinds.Mark points.Ellipsis) c.args.cursor.rest.now = search rules in
     let label : ¬ BeginsLabel c.args.cursor.rest.now = search rules in
     no_entry_refused c.args.room c.args.top dots label (c.begins_definition.ensures.no c.if-begins_definition.false) c.requires c.no_declaration.ensures
 

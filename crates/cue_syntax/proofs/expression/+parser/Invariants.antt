@@ -1,10 +1,10 @@
 -- The room falls at each level that opens. Within one level the functions call each other in a fixed order.
 use Rattle.std.proofs.Common.{◌≡◌, ◌⊎◌, ℕ, ◌+◌, ◌*◌, ◌≤◌, false, [], ◌∷◌, length}
-use Rattle.cue_syntax.specs.Grammar.{AreElements, AreEntries, AreNested}
-use Rattle.cue_syntax.specs.Syntax.{elements, entries}
-use Rattle.cue_syntax.specs.Begun.{BeginsEntry}
+use Rattle.cue_syntax.specs.Grammar.{AreElementTokens, AreEntries, AreNested}
+use Rattle.cue_syntax.specs.Syntax.{elements_of_list, entries}
+use Rattle.cue_syntax.specs.Begun.{MayBeginEntry}
 use Rattle.cue_syntax.specs.Recogniser as goals
-use Rattle.cue_syntax.specs.Recogniser.{Moves, FollowsMark, IsOperandHere, levels_of, expression, term, more_terms, unary, more_parts}
+use Rattle.cue_syntax.specs.Recogniser.{MovesStack, FollowsMark, IsOperandHere, levels_of, expression, term, more_terms, unary, more_parts}
 use Rattle.cue_syntax.proofs.PartsMakeTrees.{AreTerms, AreParts, Between}
 use Rattle.cue_syntax.proofs.expression.+parser.Given as goal
 
@@ -23,8 +23,8 @@ decreases-declaration l = rank l.room 11
 abbrev pub decreases-list : goal.decreases-list
 decreases-list l = rank l.room 0
 
-abbrev pub decreases-further : goal.decreases-further
-decreases-further l = rank l.room 10
+abbrev pub decreases-list_rest : goal.decreases-list_rest
+decreases-list_rest l = rank l.room 10
 
 abbrev pub decreases-elements : goal.decreases-elements
 decreases-elements l = rank l.room 10
@@ -44,8 +44,8 @@ decreases-expression l = rank l.room 9
 abbrev pub decreases-compound : goal.decreases-compound
 decreases-compound l = rank l.room 8
 
-abbrev pub decreases-joined : goal.decreases-joined
-decreases-joined l = rank l.room 7
+abbrev pub decreases-after_operand : goal.decreases-after_operand
+decreases-after_operand l = rank l.room 7
 
 abbrev pub decreases-disjunction : goal.decreases-disjunction
 decreases-disjunction l = rank l.room 6
@@ -70,7 +70,7 @@ invariant-disjunction-terms l = record {
   shorter : length l.after.rest.now ≤ length l.cursor.rest.now;
   terms : AreTerms l.room l.cursor.rest.now l.terms.items l.after.rest.now;
   end : l.after.end ≡ l.cursor.end;
-  moves : Moves l.room (expression ∷ []) l.cursor.rest.now (term ∷ more_terms ∷ []) l.after.rest.now;
+  moves : MovesStack l.room (expression ∷ []) l.cursor.rest.now (term ∷ more_terms ∷ []) l.after.rest.now;
   follows : FollowsMark l.cursor.rest.now l.after.rest.now;
 }
 
@@ -82,7 +82,7 @@ invariant-parts-parts l = record {
   shorter : length l.after.rest.now ≤ length l.cursor.rest.now;
   parts : AreParts l.room l.cursor.rest.now l.parts.items l.after.rest.now;
   end : l.after.end ≡ l.cursor.end;
-  moves : Moves l.room (unary ∷ more_parts ∷ []) l.cursor.rest.now (unary ∷ more_parts ∷ []) l.after.rest.now;
+  moves : MovesStack l.room (unary ∷ more_parts ∷ []) l.cursor.rest.now (unary ∷ more_parts ∷ []) l.after.rest.now;
   follows : FollowsMark l.cursor.rest.now l.after.rest.now;
 }
 
@@ -92,10 +92,10 @@ decreases-parts-parts l = length l.after.rest.now
 abbrev pub invariant-elements-elements : goal.invariant-elements-elements
 invariant-elements-elements l = record {
   shorter : length l.rest.rest.now ≤ length l.cursor.rest.now;
-  row : AreElements l.room l.cursor.rest.now (elements l.items.items) l.comma l.rest.rest.now;
+  row : AreElementTokens l.room l.cursor.rest.now (elements_of_list l.items.items) l.comma l.rest.rest.now;
   between : Between l.comma l.items.items;
   end : l.rest.end ≡ l.cursor.end;
-  moves : Moves (1 + l.room) (goals.elements ∷ []) l.cursor.rest.now (goals.elements ∷ []) l.rest.rest.now;
+  moves : MovesStack (1 + l.room) (goals.elements ∷ []) l.cursor.rest.now (goals.elements ∷ []) l.rest.rest.now;
   leads : IsOperandHere (goals.elements ∷ []) l.cursor.rest.now l.rest.rest.now;
 }
 
@@ -109,8 +109,8 @@ invariant-declarations-declarations l = record {
   between : Between l.comma l.items.items;
   nested : l.top ≡ false → AreNested (entries l.items.items);
   end : l.rest.end ≡ l.cursor.end;
-  moves : Moves (levels_of (goals.entries l.top) + l.room) (goals.entries l.top ∷ []) l.cursor.rest.now (goals.entries l.top ∷ []) l.rest.rest.now;
-  begins : (l.rest.rest.now ≡ l.cursor.rest.now) ⊎ BeginsEntry l.cursor.rest.now;
+  moves : MovesStack (levels_of (goals.entries l.top) + l.room) (goals.entries l.top ∷ []) l.cursor.rest.now (goals.entries l.top ∷ []) l.rest.rest.now;
+  begins : (l.rest.rest.now ≡ l.cursor.rest.now) ⊎ MayBeginEntry l.cursor.rest.now;
 }
 
 abbrev pub decreases-declarations-declarations : goal.decreases-declarations-declarations

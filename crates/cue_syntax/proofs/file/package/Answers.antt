@@ -1,5 +1,5 @@
 use Rattle.std.proofs.Common.{◌≡◌, ◌∙◌, ◌⊎◌, inl, inr, ℕ, true, [], ◌∷◌, codes, arith, rules}
-use Rattle.cue_syntax.specs.Recogniser.{Refused, text}
+use Rattle.cue_syntax.specs.Recogniser.{ParserRefusesAt, text}
 use Rattle.cue_syntax.proofs.MovesAndStops.{err_from, moves_then, moves_more, refused_behind, refused_end, halted_behind}
 use Rattle.cue_syntax.proofs.MovesOverTexts.{text_package, package_comma, package_end_halts}
 use Rattle.cue_syntax.proofs.file.package.Goals as goal
@@ -8,7 +8,7 @@ use Rattle.cue_syntax.proofs.file.package.Goals.{else-not-comma-via-then-not-com
 pub returns-in_err-name-clause-refused : goal.returns-in_err-name-clause-refused
 returns-in_err-name-clause-refused c =
     let word : c.in-Name.word ≡ codes "package" = search rules in
-    err_from (λ r. (room : ℕ) → Refused room c.args.cursor.end (text ∷ []) c.args.cursor.rest.now r) c.from_residual.result _ c.from_residual.ensures.1
+    err_from (λ r. (room : ℕ) → ParserRefusesAt room c.args.cursor.end (text ∷ []) c.args.cursor.rest.now r) c.from_residual.result _ c.from_residual.ensures.1
     (λ room. refused_behind (text_package c.in-Some.token.now c.in-Some.ensures.first c.in-Name.is word) (λ none. absurd none) (refused_end c.in-Some.ensures.end (c.in_err-name.ensures.refused room)))
 
 pub returns-then-not-is_at_end-clause-refused : goal.returns-then-not-is_at_end-clause-refused

@@ -5,5 +5,5 @@ use Rattle.cue_syntax.proofs.spot.find_spot.Goals as goal
 
 pub returns-in-Some : goal.returns-in-Some
 returns-in-Some c =
-    c.spot_after.ensures ∙ ap (λ inside. spot_after inside c.own_spot.result c.in-Some.last.now.kind) c.innermost.ensures
+    c.spot_after.ensures ∙ ap (λ inside. spot_after inside c.own_spot.result c.in-Some.last.now.kind) c.find_open.ensures
     ∙ spot_by_last c.args.before.now c.in-Some.earlier.now c.in-Some.last.now c.own_spot.result c.in-Some.ensures.cases.0 c.own_spot.ensures

@@ -1,5 +1,5 @@
 use Rattle.std.proofs.Common.{subst, sym, ◌↔◌, None}
-use Rattle.cue_syntax.specs.declared.spot.Spot.TheVariants as spots
+use Rattle.cue_syntax.specs.declared.spot.Position.TheVariants as spots
 use Rattle.cue_syntax.specs.Spots.{spot_of}
 use Rattle.cue_syntax.specs.Inner.Backwards.{IsCloseName}
 use Rattle.cue_syntax.proofs.SpotByTheLastToken.{close_name_last}

@@ -1,6 +1,6 @@
 use Rattle.std.proofs.Common.{refl, subst, arith}
-use Rattle.cue_table.specs.Form.{IsKept, IsTaken, IsTree}
-use Rattle.cue_table.specs.Tree.{taken}
+use Rattle.cue_table.specs.Form.{IsRowKept, IsTreeTaken, IsTree}
+use Rattle.cue_table.specs.Tree.{if_not_empty}
 use Rattle.cue_table.proofs.ByHalves.{is_there}
 use Rattle.cue_table.proofs.Resting.{taken_form}
 use Rattle.cue_table.proofs.elements.run_of.Goals as goal
@@ -20,11 +20,11 @@ same-node g c = refl
 pub returns-clause-some : goal.returns-clause-some
 returns-clause-some g c =
     let tree = c.into_root-node.result in
-    let there : IsTaken tree = taken_form tree (is_there (λ node. node.now) c.taken.result (taken tree) c.is_none.result c.if-is_none.false c.is_none.ensures c.taken.ensures) in
+    let there : IsTreeTaken tree = taken_form tree (is_there (λ node. node.now) c.non_empty.result (if_not_empty tree) c.is_none.result c.if-is_none.false c.is_none.ensures c.non_empty.ensures) in
     record {
       begins = refl;
       ends = omega (arith, c.requires.order);
       is = c.into_root-node.ensures.same;
-      taken = subst IsTaken c.into_root-node.ensures.same there;
-      form = subst (IsTree (IsKept g.R.Narrow.refuses g.R.Narrow.is_value)) c.into_root-node.ensures.same c.into_root-node.ensures.form;
+      taken = subst IsTreeTaken c.into_root-node.ensures.same there;
+      form = subst (IsTree (IsRowKept g.R.Narrow.refuses g.R.Narrow.is_value)) c.into_root-node.ensures.same c.into_root-node.ensures.form;
     }

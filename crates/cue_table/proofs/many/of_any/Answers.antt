@@ -1,7 +1,7 @@
 use Rattle.std.proofs.Common.{map, rules, subst}
 use Rattle.std.proofs.lemmas.List.Sorted.{All-permutation, IsPermutation-map}
 use Rattle.std.proofs.lemmas.Result.{IfOk-weaker}
-use Rattle.cue_table.specs.Inner.Form.{Rise}
+use Rattle.cue_table.specs.Inner.Form.{StepsRise}
 use Rattle.cue_table.specs.Inner.Given.{given_of, IsBranch}
 use Rattle.cue_table.specs.Inner.View.{branches}
 use Rattle.cue_table.proofs.ByHalves.{branches_permuted}
@@ -16,9 +16,9 @@ pub met_together-requires : goal.met_together-requires
 met_together-requires g c =
     All-permutation (IsBranch g.R.Narrow.refuses g.R.Narrow.is_value) c.args.children.items c.sort_by.new.self.items c.sort_by.ensures.permutation c.requires
 
-pub returns-then-rise-clause-refused : goal.returns-then-rise-clause-refused
-returns-then-rise-clause-refused g c =
-    let rises = subst (λ xs. Rise (branches xs)) c.deref.ensures.value (c.if-rise.ensures.0 (search rules)) in
+pub returns-then-is_rising-clause-refused : goal.returns-then-is_rising-clause-refused
+returns-then-is_rising-clause-refused g c =
+    let rises = subst (λ xs. StepsRise (branches xs)) c.deref.ensures.value (c.if-is_rising.ensures.0 (search rules)) in
     branches_permuted g.R.Narrow.refuses c.of_rising.result (map given_of c.args.children.items) (map given_of c.sort_by.new.self.items)
     (IsPermutation-map given_of c.args.children.items c.sort_by.new.self.items c.sort_by.ensures.permutation)
     (rising_given g.R.Narrow.refuses c.sort_by.new.self.items c.of_rising.result rises c.of_rising.ensures.same)

@@ -8,8 +8,8 @@ use Rattle.cue_why.proofs.least.trace_all.Goals as goal
 pub loop-source-init : goal.loop-source-init
 loop-source-init c = traced_none (map step_of c.args.path.now) c.args.sources.items c.in_ok-stack.stack.items c.in_ok-behind.behind.items c.in_ok-stack.ensures.items c.in_ok-behind.ensures
 
-pub met-requires : goal.met-requires
-met-requires c =
+pub meet_trails-requires : goal.meet_trails-requires
+meet_trails-requires c =
     ap length c.deref.ensures.value
     ∙ as_long (map step_of c.args.path.now) (c.in-Some.source ∷ []) (ahead_of [] c.loop-source.stack.items) c.in_ok-trail.trail.items c.loop-source.behind.items c.in_ok-trail.ensures c.loop-source.invariant.trail
     ∙ ap length (sym c.deref-in-Some.ensures.value)

@@ -1,7 +1,7 @@
 use Rattle.std.proofs.Common.{◌≡◌, Some, None, Bor, refl, sym, ap, subst, ◌∙◌}
 use Rattle.std.specs.Option.{option_map}
 use Rattle.std.proofs.lemmas.Bool.{false≢true}
-use Rattle.cue_row.specs.Row.{Refuses}
+use Rattle.cue_row.specs.Row.{RefusesAsked}
 use Rattle.cue_row.specs.declared.parts.RowParts.{RowParts as Row}
 use Rattle.cue_row.specs.declared.question.Question as program
 use Rattle.cue_table.specs.Tree.{row_of}
@@ -27,5 +27,5 @@ returns-in_ok-held-in-Some c =
     let bare = bare_of part.branch c.has_below.result c.has_below.ensures c.if-has_below.false in
     let some : row_of part.branch ≡ Some row = sym c.row-row.ensures.row ∙ ap (option_map (λ (row : Bor Row). row.now)) c.in-Some.is in
     let is = subst (λ path. IsHeldRow kind path row held) c.steps.ensures c.in_ok-held-in-Some.ensures in
-    let free = not_free c.is_free.result ((question : program.Question) → ¬ Refuses held question) c.is_free.ensures in
+    let free = not_free c.is_free.result ((question : program.Question) → ¬ RefusesAsked held question) c.is_free.ensures in
     (λ t. held_any kind part row held bare some is (free.0 t), λ any. free.1 (any_held kind part row held bare some is any))

@@ -1,5 +1,5 @@
 use Rattle.std.proofs.Common.{inl, subst}
-use Rattle.cue_replica.specs.World.{Submits, Takes}
+use Rattle.cue_replica.specs.World.{SubmitsText, TakesState}
 use Rattle.cue_wire.specs.Requests.{text, state, IsRequest}
 use Rattle.cue_wire.specs.Inner.Calls.{request_of}
 use Rattle.cue_wire.specs.Serving.{Serves}
@@ -10,7 +10,7 @@ pub returns-in_ok-make_room-in-Some-Text-clause-ok : goal.returns-in_ok-make_roo
 returns-in_ok-make_room-in-Some-Text-clause-ok c =
     let t = c.in-Some-Text.text.now in
     let e = c.submit.ensures in
-    served (Submits t) (Serves c.args.body.now c.args.site.now c.submit.new.self) c.args.site.now c.submit.new.self c.submit.result c.reply_to.result
+    served (SubmitsText t) (Serves c.args.body.now c.args.site.now c.submit.new.self) c.args.site.now c.submit.new.self c.submit.result c.reply_to.result
     c.args.out.now.items c.make_room.new.out.items c.reply_to.new.out.items c.make_room.ensures.items
     (λ reply h. inl (text t, subst (λ call. IsRequest c.args.body.now (request_of call)) c.in-Some-Text.field-0-is c.in-Some-Text.ensures.some, h))
     (submitted t c.args.site.now c.submit.new.self c.submit.result e.legal e.ok e.valid e.err e.refused)
@@ -20,7 +20,7 @@ pub returns-in_ok-make_room-in-Some-State-clause-ok : goal.returns-in_ok-make_ro
 returns-in_ok-make_room-in-Some-State-clause-ok c =
     let bytes = c.in-Some-State.bytes.now in
     let e = c.take.ensures in
-    served (Takes bytes) (Serves c.args.body.now c.args.site.now c.take.new.self) c.args.site.now c.take.new.self c.take.result c.reply_to-in-Some-State.result
+    served (TakesState bytes) (Serves c.args.body.now c.args.site.now c.take.new.self) c.args.site.now c.take.new.self c.take.result c.reply_to-in-Some-State.result
     c.args.out.now.items c.make_room-in-Some-State.new.out.items c.reply_to-in-Some-State.new.out.items c.make_room-in-Some-State.ensures.items
     (λ reply h. inl (state bytes, subst (λ call. IsRequest c.args.body.now (request_of call)) c.in-Some-State.field-0-is c.in-Some-State.ensures.some, h))
     (took bytes c.args.site.now c.take.new.self c.take.result e.state e.ok e.valid e.err e.refused)

@@ -2,7 +2,7 @@ use Rattle.std.proofs.Common.{◌≡◌, ◌≢◌, ◌+◌, ◌-◌, ◌∙◌,
 use Rattle.std.specs.Io.KnownBytes.{IsAtEnd}
 use Rattle.cue_lattice.specs.declared.refusal.Kind.TheVariants as kinds
 use Rattle.cue_wire.specs.Frames.{IsUnfinished}
-use Rattle.cue_wire.specs.Connections.{IsStop, IsFault, Passage, PassesBy, EndsAt, failures, moment}
+use Rattle.cue_wire.specs.Connections.{IsServingStop, IsFault, ServedPassage, PassesBy, ServingEndsAt, failures, moment_of}
 use Rattle.cue_wire.proofs.Connections.{some_read, begun, went_on, stopped, handed_on, none_read, failed_read, halted, between}
 use Rattle.cue_wire.proofs.connection.serve.Goals as goal
 
@@ -10,9 +10,9 @@ pub loop-left-init : goal.loop-left-init
 loop-left-init g c =
     let source = g.S.Source in
     let sink = g.K.Sink in
-    let at = moment source.given source.to_come sink.taken source.called sink.called source.failed sink.failed in
+    let at = moment_of source.given source.to_come sink.taken source.called sink.called source.failed sink.failed in
     record {
-      so_far = begun c.args.site.now c.begun-session.result (at c.args.source.now c.args.sink.now) c.begun-session.ensures;
+      so_far = begun c.args.site.now c.new_unfed-session.result (at c.args.source.now c.args.sink.now) c.new_unfed-session.ensures;
       turns = refl;
       reads = omega arith;
       writes = omega arith;
@@ -25,13 +25,13 @@ returns-in_default-clause-passage g c =
     let source = g.S.Source in
     let sink = g.K.Sink in
     let s = c.loop-left in
-    let at = moment source.given source.to_come sink.taken source.called sink.called source.failed sink.failed in
+    let at = moment_of source.given source.to_come sink.taken source.called sink.called source.failed sink.failed in
     let before = at c.args.source.now c.args.sink.now in
     let now = at s.source s.sink in
     let after = at c.read.new.self s.sink in
     halted c.args.site.now s.site s.session before (record now { given = after.given; to_come = after.to_come })
     (failed_read c.args.site.now s.site s.session before now after.given after.to_come s.invariant.so_far c.in_default.ensures.gives c.in_default.ensures.takes)
-    (λ rest unwritten read written. IsStop kinds.Device rest unwritten (IsFault kinds.Device read written c.args.turns before after) × (kinds.Device ≡ kinds.Memory → read ≢ []))
+    (λ rest unwritten read written. IsServingStop kinds.Device rest unwritten (IsFault kinds.Device read written c.args.turns before after) × (kinds.Device ≡ kinds.Memory → read ≢ []))
     (inr (inr (inr (refl, omega (arith, s.invariant.sound, c.in_default.ensures.counts.1)))), λ other nil. cc)
 
 pub returns-then-count-eq0-clause-passage : goal.returns-then-count-eq0-clause-passage
@@ -39,7 +39,7 @@ returns-then-count-eq0-clause-passage g c =
     let source = g.S.Source in
     let sink = g.K.Sink in
     let s = c.loop-left in
-    let at = moment source.given source.to_come sink.taken source.called sink.called source.failed sink.failed in
+    let at = moment_of source.given source.to_come sink.taken source.called sink.called source.failed sink.failed in
     let before = at c.args.source.now c.args.sink.now in
     let now = at s.source s.sink in
     let after = at c.read.new.self s.sink in
@@ -62,7 +62,7 @@ loop-left-preserved g c =
     let s = c.loop-left in
     let r = c.in-Ok in
     let p = c.serve_piece in
-    let at = moment source.given source.to_come sink.taken source.called sink.called source.failed sink.failed in
+    let at = moment_of source.given source.to_come sink.taken source.called sink.called source.failed sink.failed in
     record {
       so_far = went_on c.args.site.now s.site p.new.site s.session p.new.session
           (at c.args.source.now c.args.sink.now) (at s.source s.sink) (at c.read.new.self p.new.sink)
@@ -86,10 +86,10 @@ returns-in_err-serve_piece-clause-passage g c =
     let r = c.in-Ok in
     let p = c.serve_piece in
     let site = c.args.site.now in
-    let at = moment source.given source.to_come sink.taken source.called sink.called source.failed sink.failed in
+    let at = moment_of source.given source.to_come sink.taken source.called sink.called source.failed sink.failed in
     let before = at c.args.source.now c.args.sink.now in
     let after = at c.read.new.self p.new.sink in
-    handed_on (λ result. (passage : Passage site p.new.site) × PassesBy passage before after × EndsAt result passage c.args.turns before after)
+    handed_on (λ result. (passage : ServedPassage site p.new.site) × PassesBy passage before after × ServingEndsAt result passage c.args.turns before after)
     c.from_residual.result c.in_err-serve_piece.field-0.0 c.from_residual.ensures.1
     (stopped site s.site p.new.site s.session p.new.session before (at s.source s.sink) after p.result c.in_err-serve_piece.field-0.0 (take r.count c.read.new.into)
     c.args.turns (s.left - 1) p.new.left (sink.failed s.sink) (sink.failed p.new.sink)
@@ -104,9 +104,9 @@ returns-clause-passage g c =
     let source = g.S.Source in
     let sink = g.K.Sink in
     let s = c.loop-left in
-    let at = moment source.given source.to_come sink.taken source.called sink.called source.failed sink.failed in
+    let at = moment_of source.given source.to_come sink.taken source.called sink.called source.failed sink.failed in
     let before = at c.args.source.now c.args.sink.now in
     let after = at s.source s.sink in
     halted c.args.site.now s.site s.session before after s.invariant.so_far
-    (λ rest unwritten read written. IsStop kinds.TurnsUsed rest unwritten (IsFault kinds.TurnsUsed read written c.args.turns before after) × (kinds.TurnsUsed ≡ kinds.Memory → read ≢ []))
+    (λ rest unwritten read written. IsServingStop kinds.TurnsUsed rest unwritten (IsFault kinds.TurnsUsed read written c.args.turns before after) × (kinds.TurnsUsed ≡ kinds.Memory → read ≢ []))
     (inr (inr (inl (refl, omega (arith, s.invariant.turns, c.loop-left-test.false), s.invariant.so_far.pulled, s.invariant.so_far.pushed))), λ other nil. cc)

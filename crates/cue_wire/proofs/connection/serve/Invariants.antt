@@ -1,5 +1,5 @@
 use Rattle.std.proofs.Common.{◌≡◌, ◌+◌, ◌≤◌, length}
-use Rattle.cue_wire.specs.Connections.{calls, failures, moment}
+use Rattle.cue_wire.specs.Connections.{calls, failures, moment_of}
 use Rattle.cue_wire.proofs.Connections.{SoFar}
 use Rattle.cue_wire.proofs.connection.serve.Given as goal
 
@@ -8,7 +8,7 @@ abbrev pub invariant-loop-left : goal.invariant-loop-left
 invariant-loop-left g l =
     let source = g.S.Source in
     let sink = g.K.Sink in
-    let at = moment source.given source.to_come sink.taken source.called sink.called source.failed sink.failed in
+    let at = moment_of source.given source.to_come sink.taken source.called sink.called source.failed sink.failed in
     record {
       so_far : SoFar l.fn.site l.site l.session (at l.fn.source l.fn.sink) (at l.source l.sink);
       turns : source.called l.source + sink.called l.sink + l.left ≡ source.called l.fn.source + sink.called l.fn.sink + l.fn.turns;

@@ -1,5 +1,5 @@
 use Rattle.std.proofs.Common.{◌++◌, sym, ◌∙◌}
-use Rattle.cue_wire.specs.Inner.Parts.{GoesOn}
+use Rattle.cue_wire.specs.Inner.Parts.{ServesOrStops}
 use Rattle.cue_wire.proofs.Connections.{cut_short, written_off, goes_on, handed_on}
 use Rattle.cue_wire.proofs.connection.serve_part.Goals as goal
 
@@ -11,7 +11,7 @@ returns-in_err-write_all-clause-served g c stream start taken turns before =
     let now = c.write_all.new in
     let kind = c.in_err-write_all.field-0.0 in
     let failed = sink.failed c.args.sink.now in
-    handed_on (λ result. GoesOn result (stream ++ c.args.part.now) f.new.self start f.new.site f.new.out.items taken (sink.taken now.sink) turns now.left failed (sink.failed now.sink))
+    handed_on (λ result. ServesOrStops result (stream ++ c.args.part.now) f.new.self start f.new.site f.new.out.items taken (sink.taken now.sink) turns now.left failed (sink.failed now.sink))
     c.from_residual.result kind c.from_residual.ensures.1
     (cut_short f.result kind stream c.args.part.now c.args.session.now f.new.self start c.args.site.now f.new.site c.args.out.now.items f.new.out.items
     taken (sink.taken c.args.sink.now) (sink.taken now.sink) turns c.args.left.now now.left failed (sink.failed now.sink) before (f.ensures.served before.rest before.keeps)

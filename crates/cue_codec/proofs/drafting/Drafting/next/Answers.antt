@@ -3,10 +3,10 @@ use Rattle.std.specs.Prelude.{slice_set}
 use Rattle.std.proofs.lemmas.List.{length-map, length-set}
 use Rattle.cue_table.specs.SlotsOfCode.{slot_of}
 use Rattle.cue_codec.specs.Known.{known_with}
-use Rattle.cue_codec.specs.Reading.{BeginsNone}
+use Rattle.cue_codec.specs.Reading.{ReadsNoItem}
 use Rattle.cue_codec.specs.RowBytes.{row_bytes, IsStateRow}
 use Rattle.cue_codec.specs.Inner.Reading.{IsNoneRead}
-use Rattle.cue_codec.specs.Inner.Drafting.{RowsRead, rows_bytes, rows_in, IsNext, NoneNext, BeginsNoRows}
+use Rattle.cue_codec.specs.Inner.Drafting.{RowsRead, rows_bytes, rows_in, IsNext, NoneNext, IsNoRowsPrefix}
 use Rattle.cue_codec.proofs.Codes.{refused_so}
 use Rattle.cue_codec.proofs.Drafted.{next_missing, next_never, next_unordered, next_ok, next_drafting}
 use Rattle.cue_codec.proofs.KnownPlaces.{known_set}
@@ -16,7 +16,7 @@ pub returns-in-Cut-clause-ok : goal.returns-in-Cut-clause-ok
 returns-in-Cut-clause-ok c =
     let i = c.self.inside in
     let some : 0 < i.left = subst (λ (v : RowsRead). 0 < v.left) (sym c.self.view_is) c.requires in
-    let none = subst (λ why. IsNoneRead why (BeginsNone (IsStateRow i.version) (row_bytes i.version)) c.args.reader.now) c.in-Cut.is c.in-Err.ensures.refused in (
+    let none = subst (λ why. IsNoneRead why (ReadsNoItem (IsStateRow i.version) (row_bytes i.version)) c.args.reader.now) c.in-Cut.is c.in-Err.ensures.refused in (
       c.self.view_is,
       c.in-Err.ensures.unchanged,
       subst (λ (v : RowsRead). NoneNext v c.args.reader.now) c.self.view_is
@@ -27,10 +27,10 @@ pub returns-in-Wrong-clause-refused : goal.returns-in-Wrong-clause-refused
 returns-in-Wrong-clause-refused c =
     let i = c.self.inside in
     let some : 0 < i.left = subst (λ (v : RowsRead). 0 < v.left) (sym c.self.view_is) c.requires in
-    let none = subst (λ why. IsNoneRead why (BeginsNone (IsStateRow i.version) (row_bytes i.version)) c.args.reader.now) c.in-Wrong.is c.in-Err.ensures.refused in
+    let none = subst (λ why. IsNoneRead why (ReadsNoItem (IsStateRow i.version) (row_bytes i.version)) c.args.reader.now) c.in-Wrong.is c.in-Err.ensures.refused in
     inr (
       refl,
-      subst (λ (v : RowsRead). BeginsNoRows v.version v.count (v.bytes ++ c.args.reader.now)) c.self.view_is
+      subst (λ (v : RowsRead). IsNoRowsPrefix v.version v.count (v.bytes ++ c.args.reader.now)) c.self.view_is
           (next_never i.version i.count i.left (rows_in i.draft) i.indexes.items i.known c.self.invariant.read some c.args.reader.now none),
     )
 
@@ -43,7 +43,7 @@ returns-in-Err-append-clause-refused c =
     let x = c.in-Ok.row in
     let some : 0 < i.left = subst (λ (v : RowsRead). 0 < v.left) (sym c.self.view_is) c.requires in
     refused_so c.in-Err-append.kind _ _
-    (λ none. subst (λ (v : RowsRead). BeginsNoRows v.version v.count (v.bytes ++ c.args.reader.now)) c.self.view_is
+    (λ none. subst (λ (v : RowsRead). IsNoRowsPrefix v.version v.count (v.bytes ++ c.args.reader.now)) c.self.view_is
     (next_unordered i.version i.count i.left (rows_in i.draft) i.indexes.items i.known c.self.invariant.read c.args.reader.now c.read.new.self x.0 x.1 x.2 some c.in-Ok.ensures.ok c.in-Ok.ensures.numbers none))
     c.in-Err-append.ensures.refused
 

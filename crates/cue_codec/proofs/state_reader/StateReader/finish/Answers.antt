@@ -3,7 +3,7 @@ use Rattle.std.proofs.lemmas.Bool.{false≢true}
 use Rattle.std.proofs.lemmas.Result.{err_from_is_err_and}
 use Rattle.cue_lattice.specs.declared.refusal.Kind.TheVariants as kinds
 use Rattle.cue_codec.specs.Inner.Intakes.{with_head, intake_of, IsSound}
-use Rattle.cue_codec.specs.Pieces.{Intake, so_far, IsReadTable, IsUnread}
+use Rattle.cue_codec.specs.Pieces.{Intake, so_far, IsReadTable, IsIntakeUnread}
 use Rattle.cue_codec.specs.State.{table_bytes_in, IsTableBytes}
 use Rattle.cue_table.specs.Tree.{empty}
 use Rattle.cue_table.specs.Valid.{IsValidTable}
@@ -23,7 +23,7 @@ returns-in_err-table-in-Rows-clause-refused c =
     let is = ap intake_of (sym c.in-Rows.is) ∙ c.self.view_is in
     let small = subst IsSound c.in-Rows.is c.self.invariant in
     rw (p.1, p.2)
-    (subst (λ (v : Intake). IsUnread v kind) is
+    (subst (λ (v : Intake). IsIntakeUnread v kind) is
     (undecoded_rows r.version (with_head r.version r.count r.bytes) r.bytes r.count kind refl small (head_fits r.version r.count r.bytes c.finish.ensures.fits) c.in_err-table-in-Rows.ensures.refused))
 
 pub returns-then-not-is_valid-clause-refused : goal.returns-then-not-is_valid-clause-refused
@@ -31,7 +31,7 @@ returns-then-not-is_valid-clause-refused c =
     let r = c.in-Rows.rows in
     let is = ap intake_of (sym c.in-Rows.is) ∙ c.self.view_is in
     let small = subst IsSound c.in-Rows.is c.self.invariant in
-    subst (λ (v : Intake). IsUnread v kinds.NotState) is
+    subst (λ (v : Intake). IsIntakeUnread v kinds.NotState) is
     (undecoded_table r.version (with_head r.version r.count r.bytes) r.bytes r.count c.in_ok-table-in-Rows.table refl small (head_fits r.version r.count r.bytes c.finish.ensures.fits) c.in_ok-table-in-Rows.ensures.ok (λ valid. false≢true (sym c.if-not-is_valid.true ∙ c.is_valid.ensures.1 valid)))
 
 pub returns-else-not-is_valid-clause-bytes : goal.returns-else-not-is_valid-clause-bytes

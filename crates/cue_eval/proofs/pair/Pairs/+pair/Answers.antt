@@ -5,12 +5,12 @@ use Rattle.std.proofs.Common.{◌≤◌}
 use Rattle.cue_syntax.specs.declared.tree.Expr.{size-Expr}
 use Rattle.cue_syntax.specs.declared.tree.Term.{size-Term}
 use Rattle.cue_syntax.specs.declared.tree.Declaration.TheViews.{size_is-Term}
-use Rattle.cue_syntax.specs.Syntax.{expression, branches}
+use Rattle.cue_syntax.specs.Syntax.{expression, branches_of_list}
 use Rattle.cue_syntax.proofs.Views.{view-Integer, view-Bottom}
 use Rattle.cue_scope.proofs.Walking.{at_hand}
 use Rattle.cue_eval.specs.Inner.Known.{core_of}
 use Rattle.cue_eval.specs.Sets.{integer_alone}
-use Rattle.cue_eval.specs.Pairs.{pair, plain}
+use Rattle.cue_eval.specs.Pairs.{pair, plain_pair}
 use Rattle.cue_eval.proofs.Pairing.{PairingParts, PairingTerms, part_can, part_more, term_can, term_more}
 use Rattle.cue_eval.proofs.pair.Pairs.+pair.Goals as goal
 
@@ -18,11 +18,11 @@ pub pair-returns-in-Integer : goal.pair-returns-in-Integer
 pair-returns-in-Integer t c =
     let n = c.integer_of.result in
     let number : to_z w64 (of_z w64 n) ≡ n = omega (arith, ints, c.integer_of.type_inv) in
-    c.integer_alone.ensures ∙ ap (λ m. plain (integer_alone m)) (number ∙ c.integer_of.ensures)
+    c.integer_alone.ensures ∙ ap (λ m. plain_pair (integer_alone m)) (number ∙ c.integer_of.ensures)
     ∙ ap (λ e. pair (core_of c.args.self.now e)) (sym (ap expression c.in-Integer.is ∙ view-Integer c.in-Integer.written))
 
 pub pair-returns-in-Bottom : goal.pair-returns-in-Bottom
-pair-returns-in-Bottom t c = c.nothing.ensures ∙ ap (λ e. pair (core_of c.args.self.now e)) (sym (ap expression c.in-Bottom.is ∙ view-Bottom))
+pair-returns-in-Bottom t c = c.bottom_value.ensures ∙ ap (λ e. pair (core_of c.args.self.now e)) (sym (ap expression c.in-Bottom.is ∙ view-Bottom))
 
 pub conjunction-pair-requires : goal.conjunction-pair-requires
 conjunction-pair-requires t c =
@@ -51,6 +51,6 @@ disjunction-pair-requires t c =
 
 pub disjunction-loop-term-preserved : goal.disjunction-loop-term-preserved
 disjunction-loop-term-preserved t c =
-    subst (λ xs. PairingTerms c.args.self.now xs c.args.terms.now (branches (drop (c.loop-term.term-index + 1) c.args.terms.now))) (sym c.in_ok-push.ensures.items)
+    subst (λ xs. PairingTerms c.args.self.now xs c.args.terms.now (branches_of_list (drop (c.loop-term.term-index + 1) c.args.terms.now))) (sym c.in_ok-push.ensures.items)
     (term_more c.args.self.now _ c.args.terms.now _ c.term-item.result _ c.in_ok-pair.pair c.loop-term.invariant
     (at_hand c.args.terms.now c.loop-term.term-index c.term-item.result c.loop-term-test.true c.term-item.is) c.in_ok-pair.ensures)

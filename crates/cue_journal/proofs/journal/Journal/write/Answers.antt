@@ -1,6 +1,6 @@
 use Rattle.std.proofs.Common.{ℕ, ◌+◌, ◌<◌, ◌^◌, List, ◌∷◌, ◌++◌, length, sym, subst, ap, ◌∙◌, inl, refl, arith}
 use Rattle.cue_journal.specs.Frames.{file_head}
-use Rattle.cue_journal.specs.Settled.{IsSettled}
+use Rattle.cue_journal.specs.Settled.{IsJournalSettled}
 use Rattle.cue_journal.proofs.Crash.{gate_left, committed}
 use Rattle.cue_journal.proofs.Files.{settled_sound, length-sealed}
 use Rattle.cue_journal.proofs.journal.Journal.write.Goals as goal
@@ -61,7 +61,7 @@ returns-clause-acknowledged g c = λ ready b.
     let all = committed (g.D.Disk.seen c.args.self.now.disk) (g.D.Disk.seen c.open_gate.new.disk) (g.D.Disk.may_leave c.args.self.now.disk) (g.D.Disk.may_leave c.open_gate.new.disk) batch staged.junk c.args.self.now.end s fits
     (done.0 ∙ ap (λ (l : List ℕ). (file_head ++ s.ends.frames) ++ 255 ∷ (l ++ staged.junk)) (c.deref.ensures.value ∙ c.in_ok-seal.ensures)) done.1 in (
       record {
-        settled = subst (IsSettled (g.D.Disk.seen c.open_gate.new.disk) (g.D.Disk.may_leave c.open_gate.new.disk)) (ap (λ n. c.args.self.now.end + (n + 17)) (sym (c.len-size.ensures ∙ c.args.batch.now.bytes.ok.0))) all.0;
+        settled = subst (IsJournalSettled (g.D.Disk.seen c.open_gate.new.disk) (g.D.Disk.may_leave c.open_gate.new.disk)) (ap (λ n. c.args.self.now.end + (n + 17)) (sym (c.len-size.ensures ∙ c.args.batch.now.bytes.ok.0))) all.0;
         open_still = refl;
       },
       all.1,

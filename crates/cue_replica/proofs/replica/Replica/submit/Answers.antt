@@ -2,7 +2,7 @@ use Rattle.std.proofs.Common.{refl, inl, subst}
 use Rattle.std.proofs.lemmas.Result.{err_from_is_err_and}
 use Rattle.cue_table.proofs.MetTables.{met_tables}
 use Rattle.cue_replica.specs.Language.{Table}
-use Rattle.cue_replica.specs.Replica.{Adds}
+use Rattle.cue_replica.specs.Replica.{AddsRefusals}
 use Rattle.cue_replica.specs.Texts.{text_refuses}
 use Rattle.cue_replica.proofs.Adding.{adds_met}
 use Rattle.cue_replica.proofs.Texts.{legal_not_at_once}
@@ -11,7 +11,7 @@ use Rattle.cue_replica.proofs.replica.Replica.submit.Goals as goal
 pub returns-clause-ok : goal.returns-clause-ok
 returns-clause-ok c =
     let added = text_refuses c.args.text.now in
-    let P : Table → Type 0 = λ old. Adds old added c.meet_with.new.self in
+    let P : Table → Type 0 = λ old. AddsRefusals old added c.meet_with.new.self in
     subst P c.self.view_is (adds_met c.self.inside.table c.in_ok-table.table c.meet_with.new.self added c.in_ok-meet_with.ensures.ok c.in_ok-table.ensures.answers)
 
 pub invariant_of-self-2 : goal.invariant_of-self-2

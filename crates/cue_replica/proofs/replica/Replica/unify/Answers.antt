@@ -2,14 +2,14 @@ use Rattle.std.proofs.Common.{◌≡◌, ◌⊎◌, ◌∙◌, inl, inr, ⊎_eli
 use Rattle.std.proofs.lemmas.Bool.{false≢true}
 use Rattle.cue_table.proofs.MetTables.{met_tables}
 use Rattle.cue_replica.specs.Language.{Table, language}
-use Rattle.cue_replica.specs.Replica.{Adds}
+use Rattle.cue_replica.specs.Replica.{AddsRefusals}
 use Rattle.cue_replica.proofs.Adding.{adds_met}
 use Rattle.cue_replica.proofs.replica.Replica.unify.Goals as goal
 
 pub returns-clause-ok : goal.returns-clause-ok
 returns-clause-ok c =
-    let P : Table → Type 0 = λ old. Adds old (language.table_refuses c.args.other) c.meet_with.new.self in
-    let Q : Table → Type 0 = λ other. Adds c.self.inside.table (language.table_refuses other) c.meet_with.new.self in
+    let P : Table → Type 0 = λ old. AddsRefusals old (language.table_refuses c.args.other) c.meet_with.new.self in
+    let Q : Table → Type 0 = λ other. AddsRefusals c.self.inside.table (language.table_refuses other) c.meet_with.new.self in
     subst P c.self.view_is (subst Q c.other.view_is (adds_met c.self.inside.table c.other.inside.table c.meet_with.new.self (language.table_refuses c.other.inside.table) c.in_ok-meet_with.ensures.ok
     (λ path question. (λ h. h, λ h. h))))
 

@@ -1,6 +1,6 @@
 use Rattle.std.proofs.Common.{◌-◌, ◌≤◌, [], ◌∷◌, Some, length, sym, subst, arith}
-use Rattle.cue_report.specs.Inner.GapSearch.{told_above, free_elements}
-use Rattle.cue_report.specs.Inner.Telling.{Starts}
+use Rattle.cue_report.specs.Inner.GapSearch.{gaps_above, free_elements}
+use Rattle.cue_report.specs.Inner.Telling.{WritesPiecesPrefix}
 use Rattle.cue_report.specs.Inner.Trail.{shown_steps}
 use Rattle.cue_report.proofs.GapTelling.{one_more_free, free_begun}
 use Rattle.cue_report.proofs.Telling.{grows_list, starts_whole}
@@ -19,6 +19,6 @@ pub returns-in_err-element-clause-begun : goal.returns-in_err-element-clause-beg
 returns-in_err-element-clause-begun c =
     let loop = c.loop-number in
     let low : loop.number - c.args.first ≤ c.args.end - c.args.first = omega (arith, c.loop-number-test.true) in
-    on_any _ (subst (λ xs. Starts (record { count = length c.args.out.now.items; known = Some c.args.out.now.items }) (record { count = length xs; known = Some xs })
-    (told_above (λ gap. gap ∷ []) (shown_steps c.args.steps.now) (free_elements c.args.first (c.args.end - c.args.first)))) (sym c.in_err-element.ensures.kept)
+    on_any _ (subst (λ xs. WritesPiecesPrefix (record { count = length c.args.out.now.items; known = Some c.args.out.now.items }) (record { count = length xs; known = Some xs })
+    (gaps_above (λ gap. gap ∷ []) (shown_steps c.args.steps.now) (free_elements c.args.first (c.args.end - c.args.first)))) (sym c.in_err-element.ensures.kept)
     (free_begun (λ gap. gap ∷ []) c.args.first (loop.number - c.args.first) (c.args.end - c.args.first) _ _ (shown_steps c.args.steps.now) low (starts_whole _ _ _ loop.invariant.1)))

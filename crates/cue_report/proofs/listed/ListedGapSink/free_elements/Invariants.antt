@@ -1,11 +1,11 @@
 use Rattle.std.proofs.Common.{◌+◌, ◌-◌, ◌≤◌, Some, length, [], ◌∷◌}
-use Rattle.cue_report.specs.Inner.GapSearch.{told_above, free_elements}
-use Rattle.cue_report.specs.Telling.{Grows}
+use Rattle.cue_report.specs.Inner.GapSearch.{gaps_above, free_elements}
+use Rattle.cue_report.specs.Telling.{WritesPieces}
 use Rattle.cue_report.specs.Inner.Trail.{shown_steps}
 use Rattle.cue_report.proofs.listed.ListedGapSink.free_elements.Given as goal
 
 abbrev pub invariant-loop-number : goal.invariant-loop-number
 invariant-loop-number l =
     (l.number ≤ l.end + (l.first - l.end))
-    × Grows (record { count = length l.fn.out.items; known = Some l.fn.out.items }) (record { count = length l.out.items; known = Some l.out.items })
-    (told_above (λ gap. gap ∷ []) (shown_steps l.steps) (free_elements l.first (l.number - l.first)))
+    × WritesPieces (record { count = length l.fn.out.items; known = Some l.fn.out.items }) (record { count = length l.out.items; known = Some l.out.items })
+    (gaps_above (λ gap. gap ∷ []) (shown_steps l.steps) (free_elements l.first (l.number - l.first)))

@@ -1,7 +1,7 @@
 use Rattle.std.proofs.Common.{◌∙◌, ◌+◌, ◌++◌, drop, sym, ap, arith}
 use Rattle.cue_syntax.specs.Syntax.{entries}
 use Rattle.cue_scope.specs.Definitions.{definitions, repeats_after}
-use Rattle.cue_scope.specs.Listed.{listed}
+use Rattle.cue_scope.specs.Listed.{definition_list}
 use Rattle.cue_scope.proofs.Reading.{next_declaration, definition_read, field_passed, ellipsis_passed, all_with_next, repeats_with_next}
 use Rattle.cue_scope.proofs.definitions.Definitions.of.Goals as goal
 use Rattle.cue_scope.proofs.definitions.Definitions.of.Goals.{in-Definition+in_ok-add-in-Definition, in-Field, in-Ellipsis}
@@ -25,15 +25,15 @@ loop-declaration-preserved c =
           rw (w.list-is, w.numbers-is)
           (record {
             numbered = c.loop-declaration.invariant.numbered;
-            all = ap (λ z. listed c.loop-declaration.list.items ++ z) (sym left) ∙ c.loop-declaration.invariant.all;
-            repeats = ap (repeats_after (listed c.loop-declaration.list.items)) (sym left) ∙ c.loop-declaration.invariant.repeats;
+            all = ap (λ z. definition_list c.loop-declaration.list.items ++ z) (sym left) ∙ c.loop-declaration.invariant.all;
+            repeats = ap (repeats_after (definition_list c.loop-declaration.list.items)) (sym left) ∙ c.loop-declaration.invariant.repeats;
           })
       | in-Ellipsis w ↦
           let left = ap definitions next ∙ ellipsis_passed c.declaration-item.result rest w.in-Ellipsis.is in
           rw (w.list-is, w.numbers-is)
           (record {
             numbered = c.loop-declaration.invariant.numbered;
-            all = ap (λ z. listed c.loop-declaration.list.items ++ z) (sym left) ∙ c.loop-declaration.invariant.all;
-            repeats = ap (repeats_after (listed c.loop-declaration.list.items)) (sym left) ∙ c.loop-declaration.invariant.repeats;
+            all = ap (λ z. definition_list c.loop-declaration.list.items ++ z) (sym left) ∙ c.loop-declaration.invariant.all;
+            repeats = ap (repeats_after (definition_list c.loop-declaration.list.items)) (sym left) ∙ c.loop-declaration.invariant.repeats;
           })
     ]

@@ -1,7 +1,7 @@
 use Rattle.std.proofs.Common.{◌≡◌, ℤ, take, All}
 use Rattle.std.specs.List.{list_any}
 use Rattle.cue_sets.specs.Pieces.{is_member}
-use Rattle.cue_sets.specs.Inner.Gaps.{lacks}
+use Rattle.cue_sets.specs.Inner.Gaps.{pieces_lack}
 use Rattle.cue_sets.specs.Inner.Sorted.{IsPiece}
 use Rattle.cue_sets.proofs.int_set.IntSet.gaps.Given as goal
 
@@ -9,5 +9,5 @@ use Rattle.cue_sets.proofs.int_set.IntSet.gaps.Given as goal
 abbrev pub invariant-loop-set : goal.invariant-loop-set
 invariant-loop-set l = record {
   pieces : All IsPiece l.gaps.items;
-  members : (n : ℤ) → is_member l.gaps.items n ≡ list_any (λ set. lacks set n) (take l.set-index l.sets);
+  members : (n : ℤ) → is_member l.gaps.items n ≡ list_any (λ set. pieces_lack set n) (take l.set-index l.sets);
 }

@@ -1,5 +1,5 @@
 use Rattle.std.proofs.Common.{ap, ◌∙◌}
-use Rattle.cue_table.specs.Form.{IsKept}
+use Rattle.cue_table.specs.Form.{IsRowKept}
 use Rattle.cue_table.specs.Inner.View.{branches}
 use Rattle.cue_table.specs.Tree.{below, labels_of}
 use Rattle.cue_table.proofs.Nodes.{branches_form}
@@ -8,7 +8,7 @@ use Rattle.cue_table.proofs.branch.Branch.labels.Goals as goal
 
 pub new-requires : goal.new-requires
 new-requires g c =
-    let P = IsKept g.R.Narrow.refuses g.R.Narrow.is_value in
+    let P = IsRowKept g.R.Narrow.refuses g.R.Narrow.is_value in
     rw c.deref.ensures.value (branches_form P c.node.inside c.self.inside.node.now c.node.view_is c.self.invariant)
 
 pub returns-clause-list : goal.returns-clause-list

@@ -2,7 +2,7 @@ use Rattle.std.proofs.Common.{sym, ap, subst, ◌∙◌, arith}
 use Rattle.std.specs.Option.{option_map, option_or}
 use Rattle.cue_lattice.specs.Path.{index}
 use Rattle.cue_table.specs.declared.node.Onward.{Onward}
-use Rattle.cue_table.specs.Inner.Form.{Rise}
+use Rattle.cue_table.specs.Inner.Form.{StepsRise}
 use Rattle.cue_table.specs.Inner.View.{branches, run_branches}
 use Rattle.cue_table.specs.Tree.{below, find}
 use Rattle.cue_table.proofs.Gaps.{own_rise, runs_rise}
@@ -11,11 +11,11 @@ use Rattle.cue_table.proofs.node.Node.element.Goals as goal
 
 pub find_element-own-requires : goal.find_element-own-requires
 find_element-own-requires g c =
-    subst (λ cs. Rise (branches cs)) (sym c.deref.ensures.value) (own_rise c.self.inside.children.items c.self.inside.rest (subst (λ t. Rise (below t)) (sym c.self.view_is) c.requires))
+    subst (λ cs. StepsRise (branches cs)) (sym c.deref.ensures.value) (own_rise c.self.inside.children.items c.self.inside.rest (subst (λ t. StepsRise (below t)) (sym c.self.view_is) c.requires))
 
 pub find_run-requires : goal.find_run-requires
 find_run-requires g c =
-    rw c.deref-4.ensures.value (rw c.deref-3.ensures (runs_rise c.self.inside.children.items c.self.inside.rest c.in-Some.onward c.in-Some.is (subst (λ t. Rise (below t)) (sym c.self.view_is) c.requires)))
+    rw c.deref-4.ensures.value (rw c.deref-3.ensures (runs_rise c.self.inside.children.items c.self.inside.rest c.in-Some.onward c.in-Some.is (subst (λ t. StepsRise (below t)) (sym c.self.view_is) c.requires)))
 
 pub returns : goal.returns
 returns g c =

@@ -1,7 +1,7 @@
 use Rattle.std.proofs.Common.{sym, ap, subst, ◌∙◌}
 use Rattle.cue_lattice.specs.Path.{label}
 use Rattle.cue_row.specs.Steps.{step_of}
-use Rattle.cue_table.specs.Inner.Form.{Rise}
+use Rattle.cue_table.specs.Inner.Form.{StepsRise}
 use Rattle.cue_table.specs.Inner.View.{branches}
 use Rattle.cue_table.specs.Tree.{below, find, step_into}
 use Rattle.cue_table.proofs.Gaps.{own_rise}
@@ -10,7 +10,7 @@ use Rattle.cue_table.proofs.node.Node.step_into.Goals as goal
 
 pub find-requires : goal.find-requires
 find-requires g c =
-    subst (λ cs. Rise (branches cs)) (sym c.deref.ensures.value) (own_rise c.self.inside.children.items c.self.inside.rest (subst (λ t. Rise (below t)) (sym c.self.view_is) c.requires))
+    subst (λ cs. StepsRise (branches cs)) (sym c.deref.ensures.value) (own_rise c.self.inside.children.items c.self.inside.rest (subst (λ t. StepsRise (below t)) (sym c.self.view_is) c.requires))
 
 pub returns-in-Label : goal.returns-in-Label
 returns-in-Label g c =

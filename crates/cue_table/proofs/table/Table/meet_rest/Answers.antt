@@ -1,8 +1,8 @@
 use Rattle.std.proofs.Common.{◌≡◌, ◌≤◌, [], None, refl, ap, arith}
 use Rattle.cue_lattice.specs.Limits.{step_limit}
 use Rattle.cue_table.specs.Depth.{tree_depth}
-use Rattle.cue_table.specs.Form.{IsKept}
-use Rattle.cue_table.specs.Tree.{node, none, onward, taken}
+use Rattle.cue_table.specs.Form.{IsRowKept}
+use Rattle.cue_table.specs.Tree.{node, none, onward, if_not_empty}
 use Rattle.cue_table.proofs.ByHalves.{is_there}
 use Rattle.cue_table.proofs.Hanging.{is_absent}
 use Rattle.cue_table.proofs.Resting.{alone_form, nothing_added, rest_added_ok, taken_form}
@@ -14,7 +14,7 @@ same-self g c = refl
 pub returns-then-is_none-clause-ok : goal.returns-then-is_none-clause-ok
 returns-then-is_none-clause-ok g c =
     nothing_added g.R.Narrow.refuses c.args.self.now c.args.self.now [] c.args.from c.rest.inside.root c.args.rest refl c.rest.view_is
-    (is_absent (λ node. node.now) c.taken.result (taken c.rest.inside.root) c.is_none.result c.if-is_none.true c.is_none.ensures c.taken.ensures)
+    (is_absent (λ node. node.now) c.non_empty.result (if_not_empty c.rest.inside.root) c.is_none.result c.if-is_none.true c.is_none.ensures c.non_empty.ensures)
 
 pub same-node : goal.same-node
 same-node g c = refl
@@ -27,8 +27,8 @@ same-self-2 g c = refl
 
 pub invariant_of-meet_with : goal.invariant_of-meet_with
 invariant_of-meet_with g c =
-    let P = IsKept g.R.Narrow.refuses g.R.Narrow.is_value in
-    let there = taken_form c.rest.inside.root (is_there (λ node. node.now) c.taken.result (taken c.rest.inside.root) c.is_none.result c.if-is_none.false c.is_none.ensures c.taken.ensures) in
+    let P = IsRowKept g.R.Narrow.refuses g.R.Narrow.is_value in
+    let there = taken_form c.rest.inside.root (is_there (λ node. node.now) c.non_empty.result (if_not_empty c.rest.inside.root) c.is_none.result c.if-is_none.false c.is_none.ensures c.non_empty.ensures) in
     let form = alone_form P c.args.from c.rest.inside.root c.requires.few there c.rest.invariant.0 in
     let same = ap tree_depth c.rest.view_is in
     let low : tree_depth (node None none (onward c.args.from c.rest.inside.root)) ≤ step_limit = omega (arith, same, c.requires.depth) in

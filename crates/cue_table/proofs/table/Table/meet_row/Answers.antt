@@ -1,7 +1,7 @@
 use Rattle.std.proofs.Common.{◌≤◌, ◌∙◌, sym, subst}
 use Rattle.std.proofs.lemmas.Result.{on_ok_weaker}
 use Rattle.cue_lattice.specs.Limits.{step_limit}
-use Rattle.cue_table.specs.Form.{IsKept, IsTree}
+use Rattle.cue_table.specs.Form.{IsRowKept, IsTree}
 use Rattle.cue_table.specs.Depth.{tree_depth}
 use Rattle.cue_table.specs.Tree.{node}
 use Rattle.cue_table.specs.Inner.View.{below_in, branches, rest_in}
@@ -9,7 +9,7 @@ use Rattle.cue_table.proofs.Hanging.{added_row}
 use Rattle.cue_table.proofs.table.Table.meet_row.Goals as goal
 
 pub narrow_row-requires-clause-left : goal.narrow_row-requires-clause-left
-narrow_row-requires-clause-left g c = (subst (IsTree (IsKept g.R.Narrow.refuses g.R.Narrow.is_value)) (sym c.root.view_is) c.self.invariant.0).0
+narrow_row-requires-clause-left g c = (subst (IsTree (IsRowKept g.R.Narrow.refuses g.R.Narrow.is_value)) (sym c.root.view_is) c.self.invariant.0).0
 
 pub narrow_row-requires-clause-right : goal.narrow_row-requires-clause-right
 narrow_row-requires-clause-right g c =
@@ -17,7 +17,7 @@ narrow_row-requires-clause-right g c =
 
 pub invariant_of-self-2 : goal.invariant_of-self-2
 invariant_of-self-2 g c =
-    let P = IsKept g.R.Narrow.refuses g.R.Narrow.is_value in
+    let P = IsRowKept g.R.Narrow.refuses g.R.Narrow.is_value in
     let tree = node c.root.inside.row (below_in (branches c.root.inside.children.items) c.root.inside.rest) (rest_in c.root.inside.rest) in
     let form : IsTree P tree = subst (IsTree P) (sym c.root.view_is) c.self.invariant.0 in
     let low : tree_depth tree ≤ step_limit = subst (λ t. tree_depth t ≤ step_limit) (sym c.root.view_is) c.self.invariant.1 in

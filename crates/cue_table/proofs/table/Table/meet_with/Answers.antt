@@ -2,14 +2,14 @@ use Rattle.std.proofs.Common.{◌≡◌, ◌≤◌, ◌∙◌, Some, None, sym, 
 use Rattle.cue_lattice.specs.Limits.{step_limit}
 use Rattle.cue_table.specs.Depth.{tree_depth}
 use Rattle.cue_table.specs.Meet.{IsMet}
-use Rattle.cue_table.specs.Tree.{Tree, node, none, child, no_rest, onward, empty, taken}
+use Rattle.cue_table.specs.Tree.{Tree, node, none, child, no_rest, onward, empty, if_not_empty}
 use Rattle.cue_table.proofs.ByHalves.{free}
 use Rattle.cue_table.proofs.Depth.{met_depth}
 use Rattle.cue_table.proofs.Hanging.{is_absent}
 use Rattle.cue_table.proofs.table.Table.meet_with.Goals as goal
 
 -- no row stands in a tree that is not taken
-taken_none : {R : Type 0} (tree : Tree R) → taken tree ≡ None → tree ≡ empty
+taken_none : {R : Type 0} (tree : Tree R) → if_not_empty tree ≡ None → tree ≡ empty
 taken_none (node (Some row) children rest) e = cc
 taken_none (node None none no_rest) e = refl
 taken_none (node None none (onward n tree)) e = cc
@@ -24,7 +24,7 @@ module _ {R Q : Type 0} (refuses : R → Q → Type 0) where
 
 pub returns-then-is_none-clause-ok : goal.returns-then-is_none-clause-ok
 returns-then-is_none-clause-ok g c =
-    let gone = taken_none c.other.inside.root (is_absent (λ node. node.now) c.taken.result (taken c.other.inside.root) c.is_none.result c.if-is_none.true c.is_none.ensures c.taken.ensures) in
+    let gone = taken_none c.other.inside.root (is_absent (λ node. node.now) c.non_empty.result (if_not_empty c.other.inside.root) c.is_none.result c.if-is_none.true c.is_none.ensures c.non_empty.ensures) in
     met_nothing g.R.Narrow.refuses c.args.self.now c.args.other (sym c.other.view_is ∙ gone)
 
 pub same-self : goal.same-self
@@ -38,7 +38,7 @@ invariant_of-self g c = c.other.invariant
 
 pub returns-then-is_none-2-clause-ok : goal.returns-then-is_none-2-clause-ok
 returns-then-is_none-2-clause-ok g c =
-    let gone = taken_none c.self.inside.root (is_absent (λ node. node.now) c.taken-2.result (taken c.self.inside.root) c.is_none-2.result c.if-is_none-2.true c.is_none-2.ensures c.taken-2.ensures) in
+    let gone = taken_none c.self.inside.root (is_absent (λ node. node.now) c.non_empty-2.result (if_not_empty c.self.inside.root) c.is_none-2.result c.if-is_none-2.true c.is_none-2.ensures c.non_empty-2.ensures) in
     subst (IsMet g.R.Narrow.refuses c.args.self.now c.args.other) (sym c.other.view_is) (nothing_met g.R.Narrow.refuses c.args.self.now c.args.other (sym c.self.view_is ∙ gone))
 
 pub same-root-2 : goal.same-root-2

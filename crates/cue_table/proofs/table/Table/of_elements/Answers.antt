@@ -1,6 +1,6 @@
 use Rattle.std.proofs.Common.{◌≡◌, ◌∷◌, ◌∙◌, length, sym, ap, subst, arith}
 use Rattle.std.specs.Vec.Iter.{into_iter_items}
-use Rattle.cue_table.specs.Form.{IsKept}
+use Rattle.cue_table.specs.Form.{IsRowKept}
 use Rattle.cue_table.specs.Inner.View.{run_branches}
 use Rattle.cue_table.specs.Many.{IsOfElements}
 use Rattle.cue_table.proofs.Stretches.{elements_depth, root_given, none_given}
@@ -23,12 +23,12 @@ list_of-requires-clause-few g c =
 pub of_root-requires-clause-depth : goal.of_root-requires-clause-depth
 of_root-requires-clause-depth g c =
     let given =
-    root_given g.R.Narrow.refuses (IsKept g.R.Narrow.refuses g.R.Narrow.is_value) c.in-Some.from c.in-Some.further c.into_root.result c.in_ok-root.root c.args.stretches.items (into_iter_items c.into_iter-others.result) (into_iter_items c.next.new.self) (run_branches c.in_ok-runs.runs.items)
+    root_given g.R.Narrow.refuses (IsRowKept g.R.Narrow.refuses g.R.Narrow.is_value) c.in-Some.from c.in-Some.further c.into_root.result c.in_ok-root.root c.args.stretches.items (into_iter_items c.into_iter-others.result) (into_iter_items c.next.new.self) (run_branches c.in_ok-runs.runs.items)
     c.into_iter-others.ensures.rest c.in-Some.ensures.items c.into_root.ensures.same c.in_ok-runs.ensures.same c.in_ok-root.ensures in
     elements_depth g.R.Narrow.refuses g.R.Narrow.is_value c.args.stretches.items c.in_ok-root.root c.in_ok-root.ensures.form c.requires.depth given
 
 pub returns-clause-refused : goal.returns-clause-refused
 returns-clause-refused g c =
     subst (IsOfElements g.R.Narrow.refuses c.args.stretches.items) (sym c.of_root.ensures)
-    (root_given g.R.Narrow.refuses (IsKept g.R.Narrow.refuses g.R.Narrow.is_value) c.in-Some.from c.in-Some.further c.into_root.result c.in_ok-root.root c.args.stretches.items (into_iter_items c.into_iter-others.result) (into_iter_items c.next.new.self) (run_branches c.in_ok-runs.runs.items)
+    (root_given g.R.Narrow.refuses (IsRowKept g.R.Narrow.refuses g.R.Narrow.is_value) c.in-Some.from c.in-Some.further c.into_root.result c.in_ok-root.root c.args.stretches.items (into_iter_items c.into_iter-others.result) (into_iter_items c.next.new.self) (run_branches c.in_ok-runs.runs.items)
     c.into_iter-others.ensures.rest c.in-Some.ensures.items c.into_root.ensures.same c.in_ok-runs.ensures.same c.in_ok-root.ensures)

@@ -1,6 +1,6 @@
 use Rattle.std.proofs.Common.{map, ◌∙◌, ap, suc, sym, rules}
 use Rattle.std.specs.Prelude.{IsTrue}
-use Rattle.cue_row.specs.Row.{RowRefuses}
+use Rattle.cue_row.specs.Row.{RowRefusesQuestion}
 use Rattle.cue_row.specs.Steps.{step_of}
 use Rattle.cue_why.specs.Inner.Trails.{TrailRefuses}
 use Rattle.cue_why.proofs.Demands.{map_length}
@@ -10,7 +10,7 @@ use Rattle.cue_why.proofs.finding.Finding.is_made_by.Goals as goal
 pub returns-in-Some : goal.returns-in-Some
 returns-in-Some c =
     let path = map step_of c.args.path.now in
-    let own = TrailRefuses RowRefuses path c.args.rows.now in
+    let own = TrailRefuses RowRefusesQuestion path c.args.rows.now in
     let long = c.requires ∙ ap suc (sym (map_length step_of c.args.path.now)) in
     let same = end_row path c.args.rows.now c.in-Some._above.now c.in-Some.row.now c.in-Some.ensures.cases.0 long in
     let asked : IsTrue c.is_demanded.result = search rules in

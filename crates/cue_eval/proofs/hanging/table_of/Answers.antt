@@ -1,7 +1,0 @@
-use Rattle.cue_row.specs.Row.{RowRefuses}
-use Rattle.cue_eval.proofs.Gathering.{alone}
-use Rattle.cue_eval.proofs.hanging.table_of.Goals as goal
-
-pub returns-clause-answers : goal.returns-clause-answers
-returns-clause-answers c =
-    alone c.new-table.result c.add_row.new.table c.args.row (RowRefuses c.args.row) c.new-table.ensures c.in_ok-add_row.ensures.answers (λ question. (λ h. h, λ h. h))

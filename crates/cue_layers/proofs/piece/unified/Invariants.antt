@@ -1,6 +1,0 @@
-use Rattle.std.proofs.Common.{take}
-use Rattle.cue_layers.proofs.Pieces.{HasAccepted}
-use Rattle.cue_layers.proofs.piece.unified.Given as goal
-
-abbrev pub invariant-loop-i : goal.invariant-loop-i
-invariant-loop-i l = HasAccepted l.content (take l.i l.pieces)

@@ -1,8 +1,0 @@
-use Rattle.std.proofs.Common.{arith}
-use Rattle.cue_net.proofs.Findings.{told_parts}
-use Rattle.cue_net.proofs.told.told_by.Goals as goal
-
-pub returns : goal.returns
-returns c =
-    told_parts c.args.replies.now c.in-Some.to_inputs.now c.in-Some.last.now c.deref.result.now c.args.inputs c.told_of.result
-    c.in-Some.ensures.cases.0 c.deref.ensures.value (omega (arith, c.if-to_inputs-inputs.false)) c.told_of.ensures

@@ -1,9 +1,0 @@
-use Rattle.std.proofs.Common.{inr}
-use Rattle.cue_program.specs.Contents.{bytes_of}
-use Rattle.cue_program.proofs.Calls.{fills_touch, on_err}
-use Rattle.cue_program.proofs.draft.fill_and_move.Goals as goal
-
-pub returns-in_err-rename-clause-stopped : goal.returns-in_err-rename-clause-stopped
-returns-in_err-rename-clause-stopped g c =
-    let touched = fills_touch g.S.Shelf.makes c.args.place.now (bytes_of c.args.contents.now) c.args.is_file c.args.file c.args.shelf.now c.fill.new.shelf c.in_ok-fill.ensures.filled in
-    on_err c.from_residual-in_err-rename.result (c.fill.new.shelf, touched, inr c.in_err-rename.ensures)

@@ -1,4 +1,0 @@
-use Rattle.cue_service.proofs.board.Board.replace.Goals as goal
-
-pub invariant_of-self : goal.invariant_of-self
-invariant_of-self c = c.none-kept.ensures c.args.table

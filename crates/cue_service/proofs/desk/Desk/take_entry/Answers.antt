@@ -1,5 +1,0 @@
-use Rattle.cue_service.proofs.Pulls.{covers_known}
-use Rattle.cue_service.proofs.desk.Desk.take_entry.Goals as goal
-
-pub returns-then-branch-clause-brings : goal.returns-then-branch-clause-brings
-returns-then-branch-clause-brings c of acceptable = covers_known c.args.self.now c.args.entry.now of (c.in_ok-knows-in-Text.ensures c.if-branch.true)
