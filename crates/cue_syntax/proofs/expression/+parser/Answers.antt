@@ -6,7 +6,8 @@ use Rattle.cue_syntax.specs.declared.tree.Expr.{Expr}
 use Rattle.cue_syntax.specs.declared.tree.Rest.TheVariants as rests
 use Rattle.cue_syntax.specs.declared.tree.Term.{Term}
 use Rattle.cue_syntax.specs.Syntax.{no_elements, branch, parenthesis, struct, close, list, conjunction, disjunction, elements_of_list, branches_of_list, entries, expression, rest_of_tree}
-use Rattle.cue_syntax.specs.Grammar.{IsExpression, IsTermOf, IsEntry, AreElementTokens, AreEntries, AreNested}
+use Rattle.cue_syntax.specs.Grammar.{IsExpression, AreEntries, AreNested}
+use Rattle.cue_syntax.specs.Inner.Grammar.{IsTermOf, IsEntry, AreElementTokens}
 use Rattle.cue_syntax.proofs.ReadingsJoin.{reads_one_at, reads_none}
 use Rattle.cue_syntax.proofs.RowsGrow.{nested_pushed}
 use Rattle.cue_syntax.proofs.Views.{view-term, view-Parenthesis, view-Struct, view-Close, view-Conjunction, view-Disjunction, view-Field, view-Definition, view-List, view-Ends}
