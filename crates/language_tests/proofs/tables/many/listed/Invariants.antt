@@ -1,0 +1,10 @@
+use Rattle.std.proofs.Common.{◌<◌, ◌≤◌, ◌^◌, All}
+use Rattle.cue_lattice.specs.Limits.{step_limit}
+use Rattle.cue_table.specs.Depth.{tree_depth}
+use Rattle.language_tests.proofs.tables.many.listed.Given as goal
+
+abbrev pub invariant-loop-given : goal.invariant-loop-given
+invariant-loop-given g l = record {
+  few : All (λ one. one.0 ≤ 2 ^ 32) l.tables.items;
+  deep : All (λ one. tree_depth one.1 < step_limit) l.tables.items;
+}
