@@ -1,4 +1,4 @@
-# For bench/lex.sh and bench/parse.sh: times cue_vectors on texts of 256 KiB, 512 KiB and 1 MiB. The caller has
+# For bench/lex.sh and bench/parse.sh: times cue_cases on texts of 256 KiB, 512 KiB and 1 MiB. The caller has
 # `generate SHAPE SIZE`, which writes a text of that shape and at most that size.
 
 # The C library keeps the memory that is given back and asks for large pages. What is measured is the program then, and
@@ -22,7 +22,7 @@ growth() {
     local what=$1 text worst=0 shape row size
     shift
     if [ ! -x "$program" ]; then
-        (cd crates/cue_vectors && rt run -- data/parse.tsv > /dev/null)
+        (cd crates/cue_cases && rt run -- texts data/parse.tsv > /dev/null)
     fi
     text=$(mktemp)
     trap "rm -f '$text'" EXIT

@@ -2,9 +2,9 @@
 # How long the lexer takes for texts of 256 KiB, 512 KiB and 1 MiB, in microseconds, and how the time grows for each byte
 # from the first size to the last: 1.00 is linear. The script ends with 1 where a growth is above 1.20. It wants a machine
 # that does nothing else.
-# Usage, at the top of the repository: bench/lex.sh [PROGRAM], where PROGRAM is what `rt run` makes of cue_vectors.
+# Usage, at the top of the repository: bench/lex.sh [PROGRAM], where PROGRAM is what `rt run` makes of cue_cases.
 set -eu
-program=${1:-crates/cue_vectors/out/cue_vectors}
+program=${1:-crates/cue_cases/out/cue_cases}
 . bench/growth.bash
 
 generate() {

@@ -19,7 +19,7 @@ WORDS = ["int", "string", "bool", "null", "true", "_", "_|_", "*", "|", "&", "("
 def seeds():
     """Texts, states and streams of the lists and streams that the store is compared on, and some at the limits."""
     texts, states = set(LIMITS), set()
-    with open(os.path.join(TOP, "crates/cue_lists/data/lists.jsonl"), encoding="utf-8") as file:
+    with open(os.path.join(TOP, "crates/cue_cases/data/lists.jsonl"), encoding="utf-8") as file:
         for line in map(json.loads, file):
             for given in line["inputs"]:
                 if isinstance(given, str):
@@ -28,7 +28,7 @@ def seeds():
                     states.add(bytes.fromhex(given["hex"]))
             if line["state"][0] == 0:
                 states.add(bytes.fromhex(line["state"][1]))
-    with open(os.path.join(TOP, "crates/cue_streams/data/streams.jsonl"), encoding="utf-8") as file:
+    with open(os.path.join(TOP, "crates/cue_cases/data/streams.jsonl"), encoding="utf-8") as file:
         streams = {bytes.fromhex(json.loads(line)["stream"]) for line in file}
     return {"texts": sorted(texts), "states": sorted(states), "frames": sorted(streams)}
 

@@ -65,7 +65,7 @@ def answers(inputs):
 
 def test_lists():
     """The answers are those of the lists, asked by several threads at once."""
-    with open(f"{top}/crates/cue_lists/data/lists.jsonl", encoding="utf-8") as file:
+    with open(f"{top}/crates/cue_cases/data/lists.jsonl", encoding="utf-8") as file:
         cases = [json.loads(line) for line in islice(file, LISTS)]
     with ThreadPoolExecutor(4) as pool:
         found = list(pool.map(answers, [case["inputs"] for case in cases]))

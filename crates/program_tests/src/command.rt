@@ -1,5 +1,5 @@
 //! Tests of the words of the command line: what is printed on words, inputs, files and devices, and
-//! how a run ends. What a text must be answered is a case of `cue_lists`.
+//! how a run ends. What a text must be answered is a case of `cue_cases`.
 mod devices;
 mod disk;
 mod files;

@@ -1,11 +1,5 @@
-//! Reads lines of a text as a JSON string, a tab and the answer that the text must get, and tells
-//! where the lexer and the parser answer otherwise. An answer is `ok`, or the refusal's number and
-//! place, and after a 9 its form. `cue_vectors FILE..` reads files, `cue_vectors` reads standard
-//! input. `cue_vectors lex FILE` and `cue_vectors parse FILE` take the whole file as one text and
-//! tell the least time of some runs, in microseconds; `parse` also walks the tree and tells how
-//! many expressions it has.
-#![tactic(auto)]
-
+//! Texts with the answers that the lexer and the parser must give: each line is a text as a JSON
+//! string, a tab and the answer: `ok`, or the refusal's number and place, and after a 9 its form.
 mod size;
 
 use anyhow::{Context, anyhow};
@@ -14,8 +8,8 @@ use cue_lex::lex;
 use cue_syntax::parse;
 use serde_json::Value;
 use std::alloc::Global;
+use std::fs;
 use std::time::Instant;
-use std::{env, fs, io};
 
 /// How often a text is read for its time.
 const RUNS: u32 = 20;
@@ -101,30 +95,17 @@ fn compare(rt: &HostRuntime, lines: &str) -> anyhow::Result<()> {
     Ok(())
 }
 
-/// Takes the whole file as one text, and tells its time.
-fn time(rt: &HostRuntime, what: &str, path: &str) -> anyhow::Result<()> {
-    let text = fs::read_to_string(rt, path)?;
-    if what == "lex" {
-        return time_lexer(rt, text.as_str());
-    }
-    time_parser(rt, text.as_str())
+/// Reads a file whose lines are texts with their answers, and prints those that get another answer.
+pub(crate) fn compare_file(rt: &HostRuntime, path: &str) -> anyhow::Result<()> {
+    compare(rt, fs::read_to_string(rt, path)?.as_str())
 }
 
-fn main(rt: HostRuntime) -> anyhow::Result<()> {
-    let mut words = Vec::new(rt.alloc());
-    for word in env::args(&rt)?.skip(1) {
-        words.push(word)?;
-    }
-    if let [what, path] = words.as_slice() {
-        if matches!(what.as_str(), "lex" | "parse") {
-            return time(&rt, what.as_str(), path.as_str());
-        }
-    }
-    if words.is_empty() {
-        return compare(&rt, io::read_to_string(rt.alloc(), rt.stdin())?.as_str());
-    }
-    for path in &words {
-        compare(&rt, fs::read_to_string(&rt, path.as_str())?.as_str())?;
-    }
-    Ok(())
+/// Takes a file as one text, and prints how long the lexer takes for it.
+pub(crate) fn time_lexing(rt: &HostRuntime, path: &str) -> anyhow::Result<()> {
+    time_lexer(rt, fs::read_to_string(rt, path)?.as_str())
+}
+
+/// Takes a file as one text, and prints how long the parser takes for it.
+pub(crate) fn time_parsing(rt: &HostRuntime, path: &str) -> anyhow::Result<()> {
+    time_parser(rt, fs::read_to_string(rt, path)?.as_str())
 }

@@ -1,4 +1,4 @@
-use crate::again::Readings;
+use crate::lists::again::Readings;
 use std::fmt;
 
 /// How many cases ended in each way, how many answers were compared and wrong, and how the printed

@@ -1,7 +1,7 @@
 //! Lists of cases, each of which is a line: a JSON object. `inputs` is a list of texts and of
 //! states (`{"hex": ".."}`), which are handed on in order as files; `export`, `report`, `print` and
 //! `state` are each a list of the exit status and the output, that of a state in hexadecimal.
-use crate::site::{Reply, written};
+use crate::lists::site::{Reply, written};
 use anyhow::{Context, anyhow};
 use cue_program::SiteQuestion;
 use serde_json::Value;

@@ -1,24 +1,21 @@
-//! Compares what one new site answers that has taken some inputs with what it must answer, and
-//! tells where it answers otherwise. `cue_lists FILE..` reads archives of cases (`.txtar`) and
-//! lists, of which each line is a case. The printed text of each site, also of one that refused an
-//! input, is handed to another site, which must then have equal state bytes.
-#![tactic(auto)]
-
+//! Cases of one new site: some inputs, and the answers that it must give then. An archive has the
+//! extension `.txtar`; each line of any other file is a case. The printed text of each site, also of
+//! one that refused an input, goes to another site, which must then have equal state bytes.
 mod again;
 mod archive;
 mod counts;
 mod list;
 mod site;
 
-use again::{Reading, read_again};
+use crate::lists::again::{Reading, read_again};
+use crate::lists::archive::{Case, cases};
+use crate::lists::counts::Counts;
+use crate::lists::list::{agrees, inputs_of};
+use crate::lists::site::{answer, document, take_all, written};
 use anyhow::Context;
-use archive::{Case, cases};
-use counts::Counts;
 use cue_program::{Replica, RunError, SiteQuestion};
-use list::{agrees, inputs_of};
 use serde_json::Value;
-use site::{answer, document, take_all, written};
-use std::{env, fs};
+use std::fs;
 
 /// What is asked of each site, with its name in lists and archives.
 const QUESTIONS: [(SiteQuestion, &str); 4] = [
@@ -122,11 +119,10 @@ fn compare_file(rt: &HostRuntime, path: &str, counts: &mut Counts) -> anyhow::Re
     Ok(())
 }
 
-fn main(rt: HostRuntime) -> anyhow::Result<()> {
-    for path in env::args(&rt)?.skip(1) {
-        let mut counts = Counts::new();
-        compare_file(&rt, path.as_str(), &mut counts)?;
-        println!(rt; "{path}: {counts}")?;
-    }
+/// Compares the cases of a file, and prints which answers are others and how the cases ended.
+pub(crate) fn compare_all(rt: &HostRuntime, path: &str) -> anyhow::Result<()> {
+    let mut counts = Counts::new();
+    compare_file(rt, path, &mut counts)?;
+    println!(rt; "{path}: {counts}")?;
     Ok(())
 }
