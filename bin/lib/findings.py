@@ -1,7 +1,6 @@
 """What a report finds in files, for `cuestore check`: refused files, conflicts and incomplete paths grouped by cause, and slips."""
 import collections
 import os
-import tempfile
 
 from program import REFUSED, Progress, front_of, run, said, stop
 from reasons import reason_of
@@ -16,6 +15,7 @@ MOST_REASONS = 40
 
 def first_fault(data):
     """The first fault of one input, and the input as it is."""
+    import tempfile
     with tempfile.NamedTemporaryFile() as file:
         file.write(data)
         file.flush()

@@ -1,12 +1,11 @@
 """Finds and runs the program cuestore, and answers --help and --version, for the scripts in bin/. An installation may have
-all files of bin/ and bin/lib/ in one folder."""
+all files of bin/ and bin/lib/ in one folder. A library that few runs need is imported where it is used, so that a command
+begins at once."""
 import os
 import re
-import shutil
 import signal
 import subprocess
 import sys
-import tempfile
 import time
 
 LIB = os.path.dirname(os.path.realpath(__file__))
@@ -19,7 +18,10 @@ def found_program(name):
     if os.environ.get(name.upper()):
         return os.environ[name.upper()]
     beside = os.path.join(os.path.dirname(os.path.abspath(sys.argv[0])), name)
-    return beside if os.access(beside, os.X_OK) else shutil.which(name) or f"{BIN}/{name}"
+    if os.access(beside, os.X_OK):
+        return beside
+    import shutil
+    return shutil.which(name) or f"{BIN}/{name}"
 
 
 CUESTORE, CUELAYERS = found_program("cuestore"), found_program("cuelayers")
@@ -68,10 +70,15 @@ def started(words, **streams):
         return stop(os.path.basename(sys.argv[0]), f"the program {CUESTORE} can't be run: {error.strerror}", 5)
 
 
+def scratch():
+    """A file without a name, in memory."""
+    return os.fdopen(os.memfd_create("cuestore"), "w+b")
+
+
 def run(words, data=None, to=None):
     """The program on these words: its exit status, standard output and standard error, as bytes. With `to` the output goes
     there as it comes, and of more than is held here the middle is left out; without it, that ends the script."""
-    with tempfile.TemporaryFile() as given, tempfile.TemporaryFile() as told:
+    with scratch() as given, scratch() as told:
         given.write(data or b"")
         given.seek(0)
         with started(words, stdin=given if data is not None else subprocess.DEVNULL, stderr=told) as process:

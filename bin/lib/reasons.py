@@ -1,5 +1,4 @@
 """Says in words why a report has a line: by what each input says at its path, and by what all say together."""
-import difflib
 import functools
 import re
 
@@ -67,6 +66,7 @@ def why_open(value, values):
 
 def nearest(label, causes):
     """The allowed label that is most like this one, by what closes its struct."""
+    import difflib
     label = label.strip('"')
     allowed = {name.strip('"') for cause in causes if (found := ALLOWED.search(cause.text)) for name in found[1].split(", ")}
     near = difflib.get_close_matches(label, sorted(allowed), 1, 0.6)

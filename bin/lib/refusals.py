@@ -1,5 +1,4 @@
 """What each refusal of the program says in plain words, and what to write instead."""
-import json
 import re
 
 from fragments import CLOSE, OPEN, Declaration, tokens_of
@@ -221,6 +220,7 @@ def closing(bracket):
 
 
 def is_json(text):
+    import json
     try:
         json.loads(text)
         return True
