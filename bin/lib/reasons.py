@@ -18,9 +18,9 @@ def root_of(names):
     return Printed(out.decode("utf-8", "replace")).root if status == 0 else None
 
 
-def value_at(names, path):
+def value_at(names, path, root=root_of):
     """The text of what these files say together at a path; none, where they say nothing."""
-    place = root_of(names)
+    place = root(names)
     for step in steps_of(path):
         place = place and place.at(step)
     return place.said[1] if place and place.said else None
@@ -73,19 +73,20 @@ def nearest(label, causes):
     return f"did you mean {near[0]}?" if near else None
 
 
-def reason_of(line, causes, files):
-    """Why a report of these files has this line, by the lines that say it; none, where nothing more can be said."""
+def reason_of(line, causes, files, root=root_of):
+    """Why a report of these files has this line, by the lines that say it; none, where nothing more can be said. `root` gives the
+    place of the root of what files say together."""
     path, why = path_of(line), why_of(line)
     found = []
     if "label not allowed" in why:
         found.append(nearest(steps_of(path)[-1], causes))
     values = list(dict.fromkeys(value for name in dict.fromkeys(cause.name for cause in causes)
-                                if (value := value_at((name,), path)) not in (None, "_")))
+                                if (value := value_at((name,), path, root)) not in (None, "_")))
     if "no value" in why:
         found.append(why_no_value(values))
     elif why == "not a single value":
-        found.append(why_open(value_at(tuple(files), path), values))
+        found.append(why_open(value_at(tuple(files), path, root), values))
     elif why == "missing":
-        value = value_at(tuple(files), path)
+        value = value_at(tuple(files), path, root)
         found.append(None if value in (None, "_") else f"allowed: {value}")
     return "; ".join(filter(None, found)) or None
