@@ -25,6 +25,8 @@ def found_program(name):
 
 
 CUESTORE, CUELAYERS = found_program("cuestore"), found_program("cuelayers")
+# How the bytes of a map of layers begin.
+MAP = b"\xfeLAY"
 # The line of a refusal: its number and name, and the place and input, where it is of one. It ends the output, and stands
 # behind the front of an answer where memory ran out while that was written.
 REFUSED = re.compile(rb"refused (\d+) (\w+)(?: at (\d+) in (\d+))?\n\Z")
@@ -62,12 +64,26 @@ def answer_help(doc, words):
         sys.exit(0)
 
 
-def started(words, **streams):
-    """A process of the program on these words, whose standard output is read here."""
+def is_map_file(name):
+    """Whether a file is a map of layers."""
     try:
-        return subprocess.Popen([CUESTORE, *words], stdout=subprocess.PIPE, **streams)
+        with open(name, "rb") as file:
+            return file.read(len(MAP)) == MAP
+    except OSError:
+        return False
+
+
+def program_for(files):
+    """The program that reads these files: cuelayers, where one of them is a map of layers."""
+    return CUELAYERS if any(map(is_map_file, files)) else CUESTORE
+
+
+def started(words, program=CUESTORE, **streams):
+    """A process of the program on these arguments, whose standard output is read here."""
+    try:
+        return subprocess.Popen([program, *words], stdout=subprocess.PIPE, **streams)
     except OSError as error:
-        return stop(os.path.basename(sys.argv[0]), f"the program {CUESTORE} can't be run: {error.strerror}", 5)
+        return stop(os.path.basename(sys.argv[0]), f"the program {program} can't be run: {error.strerror}", 5)
 
 
 def scratch():
@@ -75,13 +91,13 @@ def scratch():
     return os.fdopen(os.memfd_create("cuestore"), "w+b")
 
 
-def run(words, data=None, to=None):
-    """The program on these words: its exit status, standard output and standard error, as bytes. With `to` the output goes
+def run(words, data=None, to=None, program=CUESTORE):
+    """The program on these arguments: its exit status, standard output and standard error, as bytes. With `to` the output goes
     there as it comes, and of more than is held here the middle is left out; without it, that ends the script."""
     with scratch() as given, scratch() as told:
         given.write(data or b"")
         given.seek(0)
-        with started(words, stdin=given if data is not None else subprocess.DEVNULL, stderr=told) as process:
+        with started(words, program, stdin=given if data is not None else subprocess.DEVNULL, stderr=told) as process:
             front, end = bytearray(), b""
             for piece in iter(lambda: process.stdout.read1(1 << 16), b""):
                 if to:

@@ -3,18 +3,19 @@ import functools
 import re
 
 from printed import Printed, steps_of
-from program import run
+from program import program_for, run
 from sayings import path_of, why_of
 
 MOST_SIDES = 4  # that one reason names
 DEFAULT = re.compile(r"\*(\([^()]*\)|[^|]*?) \| ")
 ALLOWED = re.compile(r": only (.*)\Z")
+CLOSED = re.compile(r"close\(\{(.*?)\}\)")  # as printed text has it
 
 
 @functools.lru_cache(maxsize=1024)
 def root_of(names):
     """The place of the root of what these files say together; none, where they can't be read or one is refused."""
-    status, out, _ = run(["print", "--", *names])
+    status, out, _ = run(["print", "--", *names], program=program_for(names))
     return Printed(out.decode("utf-8", "replace")).root if status == 0 else None
 
 
@@ -69,6 +70,7 @@ def nearest(label, causes):
     import difflib
     label = label.strip('"')
     allowed = {name.strip('"') for cause in causes if (found := ALLOWED.search(cause.text)) for name in found[1].split(", ")}
+    allowed |= {name for cause in causes if cause.owner and (found := CLOSED.search(cause.text)) for name in re.findall(r'"([^"]*)"\?:', found[1])}
     near = difflib.get_close_matches(label, sorted(allowed), 1, 0.6)
     return f"did you mean {near[0]}?" if near else None
 
@@ -80,8 +82,9 @@ def reason_of(line, causes, files, root=root_of):
     found = []
     if "label not allowed" in why:
         found.append(nearest(steps_of(path)[-1], causes))
-    values = list(dict.fromkeys(value for name in dict.fromkeys(cause.name for cause in causes)
-                                if (value := value_at((name,), path, root)) not in (None, "_")))
+    values = [value_at((name,), path, root) for name in dict.fromkeys(cause.name for cause in causes if not cause.owner)]
+    values += [cause.text.split(": ", 1)[1] for cause in causes if cause.owner]
+    values = [value for value in dict.fromkeys(values) if value not in (None, "_")]
     if "no value" in why:
         found.append(why_no_value(values))
     elif why == "not a single value":
