@@ -1,21 +1,24 @@
 """What a report finds in files, for `cuestore check`: refused files, conflicts and incomplete paths grouped by cause, and slips."""
 import collections
+import contextlib
 import os
-import tempfile
 
-from program import REFUSED, Progress, front_of, run, said, stop
+from program import REFUSED, Progress, front_of, program_for, run, said, stop
 from reasons import reason_of
 from refusals import Fault
-from sayings import causes_of, fragment_of, is_state, path_of, why_of
+from sayings import causes_of, fragment_of, is_map, is_state, owners_of, path_of, why_of
 
 # The faults of one file that are looked for, and the files that may be refused before the report is given up.
 MOST_FAULTS = 40
+# The lines of a report of maps of which the owners are asked for: a run of cuelayers each.
+MOST_OWNED = 1000
 # The groups that get a reason in words, for which the program runs on each file that says something.
 MOST_REASONS = 40
 
 
 def first_fault(data):
     """The first fault of one input, and the input as it is."""
+    import tempfile
     with tempfile.NamedTemporaryFile() as file:
         file.write(data)
         file.flush()
@@ -41,7 +44,7 @@ def faults_of(data, first):
 
 
 def files_of(names):
-    """The files that these names stand for: a folder's are its fragments and states, at any depth."""
+    """The files that these names stand for: a folder's are its fragments, states and maps of layers, at any depth."""
     found = []
     for name in names:
         if not os.path.isdir(name):
@@ -49,7 +52,7 @@ def files_of(names):
             continue
         for at, folders, files in os.walk(name):
             folders[:] = sorted(folder for folder in folders if not folder.startswith("."))
-            found += [os.path.join(at, file) for file in sorted(files) if file.endswith((".cue", ".state"))]
+            found += [os.path.join(at, file) for file in sorted(files) if file.endswith((".cue", ".state", ".layers"))]
     return found
 
 
@@ -89,17 +92,13 @@ class Slip:
         return {"file": self.name, "line": self.row, "column": self.column, "label": self.label, "like": self.other}
 
 
-def place_of(cause):
-    return cause.name, cause.row, cause.column
-
-
 def group_lines(told):
     """The groups of report lines, each with its causes: a line belongs to the cause that most lines of its kind share."""
-    shared = collections.Counter(key for line, causes in told for key in {(why_of(line), *place_of(cause)) for cause in causes})
+    shared = collections.Counter(key for line, causes in told for key in {(why_of(line), *cause.place()) for cause in causes})
     groups = {}
     for line, causes in told:
         why = why_of(line)
-        key = max(((shared[why, *place_of(cause)], (why, *place_of(cause))) for cause in causes),
+        key = max(((shared[(why, *cause.place())], (why, *cause.place())) for cause in causes),
                   key=lambda it: it[0], default=(0, line))
         key = key[1] if key[0] > 1 else line
         group = groups.setdefault((line.split(" ", 1)[0], key), Group(line.split(" ", 1)[0], why))
@@ -167,15 +166,23 @@ class Findings:
 
     def __init__(self, files):
         self.files = files
+        program = program_for(files)
         inputs, status, lines, first = admitted([(name, read(name)) for name in files],
-                                                lambda given: run(["report", "--", *(name for name, _ in given)]))
+                                                lambda given: run(["report", "--", *(name for name, _ in given)], program=program))
+        maps = [name for name, data in inputs if is_map(data)]
+        names, texts = [name for name, _ in inputs], [(name, data) for name, data in inputs if not is_map(data)]
         self.refused = [(fault, name) for one, name in first for fault in faults_of(one.data, one)]
         progress, told = Progress("lines of the report", len(lines)), []
-        for number, line in enumerate(lines):
-            progress.step(number)
-            told.append((line, causes_of(line, inputs)))
+        with contextlib.ExitStack() as stack:
+            owners = iter(())
+            if maps:
+                import concurrent.futures
+                pool = stack.enter_context(concurrent.futures.ThreadPoolExecutor(os.cpu_count()))
+                owners = pool.map(lambda line: owners_of(path_of(line), names, maps), lines[:MOST_OWNED])
+            for number, line in enumerate(lines):
+                progress.step(number)
+                told.append((line, causes_of(line, texts) + next(owners, [])))
         self.groups = group_lines(told)
-        names = [name for name, _ in inputs]
         for group in self.groups[:MOST_REASONS]:
             progress.step(len(lines))
             group.reason = reason_of(group.line(), group.causes, names)

@@ -27,7 +27,8 @@ crates_below() {
 is_current() {
   [ -x "$program" ] && [ ! "$top/crates.txt" -nt "$program" ] || return 1
   local folders=() crate
-  for crate in $(crates_below); do folders+=("$top/crates/$crate"/{src,specs,proofs}); done
+  below=$(crates_below)
+  for crate in $below; do folders+=("$top/crates/$crate"/{src,specs,proofs}); done
   [ -z "$(find "${folders[@]}" -type f -newer "$program" -print -quit 2> /dev/null)" ]
 }
 
@@ -77,17 +78,29 @@ tell_unwritten() {
   else say "$file can't be written: $(df -P -- "$folder" | awk 'NR == 2 { print "its disk has " $4 " KiB left" }')"; fi
 }
 
-# A digest of the sources of these crates.
+# The sources that the build without proofs is made of.
+below=''
+find_sources() {
+  [ -n "$below" ] || below=$(crates_below)
+  local folders=("$top/crates.txt") crate
+  for crate in $below; do folders+=("$top/crates/$crate/src"); done
+  find "${folders[@]}" -type f "$@" 2> /dev/null
+}
+
+# A digest of these sources.
 digest_of_sources() {
-  (cd "$top" && for crate in $(crates_below); do find "crates/$crate/src" -type f -name '*.rt' 2> /dev/null; done | LC_ALL=C sort |
-    xargs cat crates.txt | sha256sum | cut -c 1-32)
+  find_sources -print0 | LC_ALL=C sort -z | xargs -0 cat | sha256sum | cut -c 1-32
 }
 
 # Takes the build without proofs in place of the program. It is kept by the digest of its sources, so that only the first
-# command waits for it.
+# command waits for it. The digest is kept with the times and sizes of the sources, so that the next commands need not read them.
 take_unproved() {
-  local folder
-  folder=$top/out/unproved/$goal-$(digest_of_sources)
+  local folder digest kept=$top/out/unproved/$goal.sources listing known=''
+  listing=$(find_sources -printf '%p %T@ %s\n')
+  if [ -r "$kept" ]; then known=$(< "$kept"); fi
+  digest=${known%%$'\n'*}
+  [ "$known" = "$digest"$'\n'"$listing" ] || digest=$(digest_of_sources)
+  folder=$top/out/unproved/$goal-$digest
   program=$folder/$goal
   if [ ! -x "$program" ]; then
     if ! command -v rt > /dev/null; then
@@ -104,6 +117,9 @@ take_unproved() {
       mkdir -p "$folder" && "$here/build-unproved" --level 1 "$goal" "$program.part" && mv "$program.part" "$program" || exit 5
     fi
     exec 8>&-
+  fi
+  if [ "$known" != "$digest"$'\n'"$listing" ]; then
+    { printf '%s\n%s\n' "$digest" "$listing" > "$kept.$$" && mv "$kept.$$" "$kept"; } 2> /dev/null || rm -f "$kept.$$" 2> /dev/null
   fi
   [ -n "${CUESTORE_QUIET-}" ] || say "answered by a build that is not proved; to prove and build the program: $top/bin/prove $goal"
 }

@@ -2,7 +2,7 @@
 import re
 
 from fragments import tokens_of
-from program import run, said, stop
+from program import program_for, run, said, stop
 
 MARKS = {":": "", "?:": "?", "!:": "!"}
 STEP = re.compile(r'"(?:\\.|[^"\\])*"|\[\d+\.\.\]|[^.]+')
@@ -164,7 +164,7 @@ def joined(path, step):
 
 def printed_of(name, files):
     """The root's place, of what is said by all inputs together."""
-    status, out, faults = run(["print", "--", *files])
+    status, out, faults = run(["print", "--", *files], program=program_for(files))
     if status:
         stop(name, said(out, faults, files), status)
     return Printed(out.decode()).root

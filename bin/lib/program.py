@@ -1,12 +1,11 @@
 """Finds and runs the program cuestore, and answers --help and --version, for the scripts in bin/. An installation may have
-all files of bin/ and bin/lib/ in one folder."""
+all files of bin/ and bin/lib/ in one folder. A library that few runs need is imported where it is used, so that a command
+begins at once."""
 import os
 import re
-import shutil
 import signal
 import subprocess
 import sys
-import tempfile
 import time
 
 LIB = os.path.dirname(os.path.realpath(__file__))
@@ -19,10 +18,15 @@ def found_program(name):
     if os.environ.get(name.upper()):
         return os.environ[name.upper()]
     beside = os.path.join(os.path.dirname(os.path.abspath(sys.argv[0])), name)
-    return beside if os.access(beside, os.X_OK) else shutil.which(name) or f"{BIN}/{name}"
+    if os.access(beside, os.X_OK):
+        return beside
+    import shutil
+    return shutil.which(name) or f"{BIN}/{name}"
 
 
 CUESTORE, CUELAYERS = found_program("cuestore"), found_program("cuelayers")
+# How the bytes of a map of layers begin.
+MAP = b"\xfeLAY"
 # The line of a refusal: its number and name, and the place and input, where it is of one. It ends the output, and stands
 # behind the front of an answer where memory ran out while that was written.
 REFUSED = re.compile(rb"refused (\d+) (\w+)(?: at (\d+) in (\d+))?\n\Z")
@@ -60,21 +64,40 @@ def answer_help(doc, words):
         sys.exit(0)
 
 
-def started(words, **streams):
-    """A process of the program on these words, whose standard output is read here."""
+def is_map_file(name):
+    """Whether a file is a map of layers."""
     try:
-        return subprocess.Popen([CUESTORE, *words], stdout=subprocess.PIPE, **streams)
+        with open(name, "rb") as file:
+            return file.read(len(MAP)) == MAP
+    except OSError:
+        return False
+
+
+def program_for(files):
+    """The program that reads these files: cuelayers, where one of them is a map of layers."""
+    return CUELAYERS if any(map(is_map_file, files)) else CUESTORE
+
+
+def started(words, program=CUESTORE, **streams):
+    """A process of the program on these arguments, whose standard output is read here."""
+    try:
+        return subprocess.Popen([program, *words], stdout=subprocess.PIPE, **streams)
     except OSError as error:
-        return stop(os.path.basename(sys.argv[0]), f"the program {CUESTORE} can't be run: {error.strerror}", 5)
+        return stop(os.path.basename(sys.argv[0]), f"the program {program} can't be run: {error.strerror}", 5)
 
 
-def run(words, data=None, to=None):
-    """The program on these words: its exit status, standard output and standard error, as bytes. With `to` the output goes
+def scratch():
+    """A file without a name, in memory."""
+    return os.fdopen(os.memfd_create("cuestore"), "w+b")
+
+
+def run(words, data=None, to=None, program=CUESTORE):
+    """The program on these arguments: its exit status, standard output and standard error, as bytes. With `to` the output goes
     there as it comes, and of more than is held here the middle is left out; without it, that ends the script."""
-    with tempfile.TemporaryFile() as given, tempfile.TemporaryFile() as told:
+    with scratch() as given, scratch() as told:
         given.write(data or b"")
         given.seek(0)
-        with started(words, stdin=given if data is not None else subprocess.DEVNULL, stderr=told) as process:
+        with started(words, program, stdin=given if data is not None else subprocess.DEVNULL, stderr=told) as process:
             front, end = bytearray(), b""
             for piece in iter(lambda: process.stdout.read1(1 << 16), b""):
                 if to:

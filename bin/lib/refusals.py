@@ -1,9 +1,8 @@
 """What each refusal of the program says in plain words, and what to write instead."""
-import json
 import re
 
 from fragments import CLOSE, OPEN, Declaration, tokens_of
-from program import visible
+from program import MAP, visible
 
 # What each refusal says, and what to write instead.
 SAID = {
@@ -31,6 +30,8 @@ SAID = {
     "Version": ("a state of a version that this program doesn't know", "a program that is as new as the state's writer"),
     "NotState": ("bytes that begin as a state and are none", "get the state again; it may be cut off or changed"),
     "TurnsUsed": ("the end of the input isn't found in 65,536 reads", "a smaller input"),
+    "NotLayers": ("bytes that begin as a map of layers and are none", "get the map again; it may be cut off or changed"),
+    "ViewTooLarge": ("a view of more rows than the limit", "fewer names or narrower patterns; cuelayers has --limit ROWS"),
     "Memory": ("no memory is left", "a larger machine, CUESTORE_MEMORY, or fewer inputs at once"),
 }
 # The forms that the store leaves out, by the name that the parser has for each.
@@ -47,6 +48,7 @@ FORMS = {
     "CloseArgument": ("close of something other than a struct in braces", "`close({..})`"),
     "Clause": ("let, for, if or import", "write the fields themselves; a value that is used often is a definition"),
 }
+MAP_OF_LAYERS = ("a map of layers, and no state", "cuelayers in place of cuestore, as in: cuelayers export FILE; or cuestore check FILE")
 NO_NUMBER = ("a number with a fraction or an exponent", "integers alone, in a smaller unit, or a string")
 LET = ("let", "a definition at the top, `#name: ..`, and `#name` where it is used")
 HIDDEN = ("a hidden name", "a definition at the top, `#name: ..`, and `#name` where it is used; it isn't exported either")
@@ -166,6 +168,8 @@ def declared(tokens, name):
 def special_of(fault):
     """The sentence and what to write instead, where the whole text or the label says more than the place."""
     found, here = fault.found, fault.found.token()
+    if fault.name == "NotState" and fault.data[:len(MAP)] == MAP:
+        return MAP_OF_LAYERS
     if fault.text.startswith("\ufeff") and fault.place == 0:
         return "a byte order mark", "save the file as UTF-8 without one"
     if fault.text.lstrip()[:1] in ("{", "[") and is_json(fault.text):
@@ -221,6 +225,7 @@ def closing(bracket):
 
 
 def is_json(text):
+    import json
     try:
         json.loads(text)
         return True
@@ -256,7 +261,7 @@ class Fault:
 
     def said(self):
         """The sentence, and what to write instead."""
-        special = special_of(self) if self.number not in (1, 17, 18) else None
+        special = special_of(self) if self.number not in (1, 17) else None
         if special:
             return special
         if self.name == "LeftOut":

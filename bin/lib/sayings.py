@@ -5,24 +5,29 @@ import re
 
 from fragments import CLOSE, OPEN, is_comma, tokens_of
 from printed import Printed, step_of, steps_of
-from program import run, visible
+from program import CUELAYERS, MAP, run, visible
 
 MOST_VISITS = 20000  # of declarations, since definitions that use definitions may be long
 MOST_SHOWN = 90  # characters of what is said
 
 
 class Saying:
-    """What a declaration says: its input, line and column from 1, and its text; a state's has no line."""
+    """What a declaration says: its input, line and column from 1, and its text. What a state says has no line. What a map of layers
+    says has an owner."""
 
-    def __init__(self, name, row, column, text):
-        self.name, self.row, self.column, self.text = name, row, column, text
+    def __init__(self, name, row, column, text, owner=None):
+        self.name, self.row, self.column, self.text, self.owner = name, row, column, text, owner
+
+    def place(self):
+        """What tells this saying from others."""
+        return (self.name, self.row, self.column) if self.row else (self.name, self.owner, self.text)
 
     def __str__(self):
-        place = f"{self.name}:{self.row}:{self.column}" if self.row else self.name
+        place = f"{self.name}:{self.row}:{self.column}" if self.row else ": ".join(filter(None, [self.name, self.owner]))
         return visible(f"{place}: {self.text}")
 
     def as_json(self):
-        return {"file": self.name, "line": self.row, "column": self.column, "text": self.text}
+        return {"file": self.name, "line": self.row, "column": self.column, "text": self.text, **({"owner": self.owner} if self.owner else {})}
 
 
 class Closer:
@@ -238,6 +243,23 @@ class Fragment:
 def fragment_of(name, data):
     """The fragment of these bytes."""
     return Fragment(name, data.decode("utf-8", "replace"))
+
+
+def owners_of(path, names, maps):
+    """What the layers and policies of maps say at the path of a line of the report of these files, each with its owner. The file is
+    named where there is one map. The commons are left out where fragments or states are beside the maps, since those are shown."""
+    status, out, _ = run(["why", path, "--", *names], program=CUELAYERS)
+    found, owner = [], ""
+    for line in out.decode("utf-8", "replace").split("\n")[:-1] if status == 0 else []:
+        if not line.startswith("\t"):
+            owner = line
+        elif owner != "commons" or len(maps) == len(names):
+            found.append(Saying(maps[0] if len(maps) == 1 else "", None, None, line[1:], owner))
+    return found
+
+
+def is_map(data):
+    return data[:len(MAP)] == MAP
 
 
 def is_state(data):

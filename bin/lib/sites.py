@@ -9,11 +9,11 @@ import signal
 import subprocess
 import tempfile
 
-from program import CUELAYERS, CUESTORE, REFUSED
+from program import CUELAYERS, CUESTORE, MAP, REFUSED
 
 SECONDS = 300  # for a run of the program
 MOST_LINES = 1000  # of conflicts that are looked at: what a state says may have far more than it has bytes
-LAYERS, MAP = ".layers", b"\xfeLAY"  # how the name and the bytes of a map of layers end and begin
+LAYERS = ".layers"  # how the name of a map of layers ends
 # How a line of a conflict ends. The last one of a report that memory ran out for is cut, and ends otherwise.
 ENDS = (b" no value\n", b" label not allowed\n")
 
