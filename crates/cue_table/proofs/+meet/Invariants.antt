@@ -14,17 +14,17 @@ decreases-meet::meet_one g l = 8 * tree_depth l.other.node + 9
 abbrev pub decreases-meet::meet_child : goal.decreases-meet::meet_child
 decreases-meet::meet_child g l = 8 * tree_depth l.right + 8
 
-abbrev pub decreases-changes::changed_by : goal.decreases-changes::changed_by
-decreases-changes::changed_by g l = 8 * tree_depth l.other.node + 8
+abbrev pub decreases-changes::change_by : goal.decreases-changes::change_by
+decreases-changes::change_by g l = 8 * tree_depth l.other.node + 8
 
-abbrev pub decreases-meet::child_met : goal.decreases-meet::child_met
-decreases-meet::child_met g l = 8 * tree_depth l.right + 7
+abbrev pub decreases-meet::unify_child : goal.decreases-meet::unify_child
+decreases-meet::unify_child g l = 8 * tree_depth l.right + 7
 
-abbrev pub decreases-lists::whole_met : goal.decreases-lists::whole_met
-decreases-lists::whole_met g l = 8 * tree_depth l.right.now + 7
+abbrev pub decreases-lists::meet_whole : goal.decreases-lists::meet_whole
+decreases-lists::meet_whole g l = 8 * tree_depth l.right.now + 7
 
-abbrev pub decreases-meet::node_met : goal.decreases-meet::node_met
-decreases-meet::node_met g l = 8 * tree_depth l.right + 6
+abbrev pub decreases-meet::meet_nodes : goal.decreases-meet::meet_nodes
+decreases-meet::meet_nodes g l = 8 * tree_depth l.right + 6
 
 abbrev pub decreases-meet::meet_into : goal.decreases-meet::meet_into
 decreases-meet::meet_into g l = 8 * tree_depth l.right + 6
@@ -32,26 +32,26 @@ decreases-meet::meet_into g l = 8 * tree_depth l.right + 6
 abbrev pub decreases-meet::meet_own : goal.decreases-meet::meet_own
 decreases-meet::meet_own g l = 8 * tree_depth l.right + 5
 
-abbrev pub decreases-lists::list_met : goal.decreases-lists::list_met
-decreases-lists::list_met g l = 8 * tree_depth l.right.now + 5
+abbrev pub decreases-lists::meet_lists : goal.decreases-lists::meet_lists
+decreases-lists::meet_lists g l = 8 * tree_depth l.right.now + 5
 
-abbrev pub decreases-lists::elements_met : goal.decreases-lists::elements_met
-decreases-lists::elements_met g l = 8 * tree_depth l.right.now + 4
+abbrev pub decreases-lists::meet_elements : goal.decreases-lists::meet_elements
+decreases-lists::meet_elements g l = 8 * tree_depth l.right.now + 4
 
-abbrev pub decreases-lists::element_met : goal.decreases-lists::element_met
-decreases-lists::element_met g l = 8 * tree_depth l.right.now.place.now + 3
+abbrev pub decreases-lists::meet_element : goal.decreases-lists::meet_element
+decreases-lists::meet_element g l = 8 * tree_depth l.right.now.place.now + 3
 
 abbrev pub decreases-meet::meet_below : goal.decreases-meet::meet_below
 decreases-meet::meet_below g l = 8 * children_depth (branches l.right.items) + 4
 
-abbrev pub decreases-meet::below_met : goal.decreases-meet::below_met
-decreases-meet::below_met g l = 8 * children_depth (branches l.right.items) + 4
+abbrev pub decreases-meet::meet_branches : goal.decreases-meet::meet_branches
+decreases-meet::meet_branches g l = 8 * children_depth (branches l.right.items) + 4
 
 abbrev pub decreases-changes::changes : goal.decreases-changes::changes
 decreases-changes::changes g l = 8 * children_depth (branches l.right.items) + 2
 
-abbrev pub decreases-lists::found_met : goal.decreases-lists::found_met
-decreases-lists::found_met g l = 8 * found_depth (option_map (λ node. node.now) l.right) + 1
+abbrev pub decreases-lists::meet_found : goal.decreases-lists::meet_found
+decreases-lists::meet_found g l = 8 * found_depth (option_map (λ node. node.now) l.right) + 1
 
 abbrev pub invariant-changes::changes-loop-other : goal.invariant-changes::changes-loop-other
 invariant-changes::changes-loop-other g l =

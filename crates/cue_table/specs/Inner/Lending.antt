@@ -5,7 +5,7 @@ use Rattle.cue_lattice.specs.declared.narrow.Narrow.{Ghosts}
 use Rattle.cue_table.specs.Inner.Child.{Child}
 use Rattle.cue_table.specs.declared.child.HeldNode.{HeldNode}
 use Rattle.cue_table.specs.contracts.child.Child.{the_row}
-use Rattle.cue_table.specs.contracts.child.Held as held
+use Rattle.cue_table.specs.contracts.child.HeldNode as held
 
 module _ (R Q : RattleType) (narrow : Ghosts R.Denot Q.Denot) where
   abbrev with_held : HeldNode R.Denot Q.Denot → Child R.Denot
