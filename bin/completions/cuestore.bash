@@ -1,43 +1,51 @@
 # Completions for bash: `source bin/completions/cuestore.bash`
-_cuestore() {
-  local words='export print report state merge serve push loop'
-  local tools='check why explain at diff add fmt lsp from-json to carry layers site git-setup help'
-  if [ "$COMP_CWORD" -eq 1 ]; then
-    if [ "${COMP_WORDS[0]}" = cuestore ]; then words="$words $tools"; fi
-    mapfile -t COMPREPLY < <(compgen -W "$words" -- "${COMP_WORDS[1]}")
-  elif [ "$COMP_CWORD" -eq 2 ] && [ "${COMP_WORDS[1]}" = to ]; then
-    mapfile -t COMPREPLY < <(compgen -W 'yaml toml env properties' -- "${COMP_WORDS[2]}")
-  elif [ "$COMP_CWORD" -eq 2 ] && [ "${COMP_WORDS[1]}" = help ]; then
-    mapfile -t COMPREPLY < <(compgen -W "$words $tools" -- "${COMP_WORDS[2]}")
-  else
-    mapfile -t COMPREPLY < <(compgen -f -X '!*.@(cue|state|layers)' -- "${COMP_WORDS[COMP_CWORD]}"
-      compgen -d -- "${COMP_WORDS[COMP_CWORD]}")
-  fi
+_cuestore_commands='export print report state merge serve push loop'
+_cuestore_tools='check why explain at diff add fmt lsp from-json to carry layers site git-setup help'
+
+_cuestore_offer() { mapfile -t COMPREPLY < <(compgen -W "$1" -- "${COMP_WORDS[COMP_CWORD]}"); }
+
+# _cuestore_files KINDS: the files that end so, and folders.
+_cuestore_files() {
+  mapfile -t COMPREPLY < <(compgen -f -X "!*.@($1)" -- "${COMP_WORDS[COMP_CWORD]}"; compgen -d -- "${COMP_WORDS[COMP_CWORD]}")
 }
-_cuestore_path() {
-  if [ "$COMP_CWORD" -gt 1 ]; then _cuestore; fi
-}
-_cuelayers() {
-  case $COMP_CWORD in
-    1) mapfile -t COMPREPLY < <(compgen -W 'put remove try merge export report print list show why' -- "${COMP_WORDS[1]}") ;;
-    *) case ${COMP_WORDS[COMP_CWORD]} in
-      -*) mapfile -t COMPREPLY < <(compgen -W '--policy --limit --at' -- "${COMP_WORDS[COMP_CWORD]}") ;;
-      *) mapfile -t COMPREPLY < <(compgen -f -X '!*.@(cue|state|layers)' -- "${COMP_WORDS[COMP_CWORD]}"
-        compgen -d -- "${COMP_WORDS[COMP_CWORD]}") ;;
-    esac ;;
+
+# _cuestore_argument COMMAND NUMBER: what an argument of a command may be, from 1.
+_cuestore_argument() {
+  case "$1 $2 ${COMP_WORDS[COMP_CWORD]}" in
+    'help 1 '*) _cuestore_offer "$_cuestore_commands $_cuestore_tools" ;;
+    'explain 1 '*) _cuestore_offer "$_cuestore_commands --json" ;;
+    'to 1 '*) _cuestore_offer 'yaml toml env properties' ;;
+    'site 1 '*) _cuestore_offer 'submit export report print state follow status ready' ;;
+    'site '*' -'*) _cuestore_offer '--token-file --run --timeout' ;;
+    'carry 1 '*) _cuestore_offer 'push pull sync' ;;
+    'carry 2 '*) _cuestore_offer 'folder: git: etcd: redis: rediss: blob:' ;;
+    'carry '*' -'*) _cuestore_offer '--generation --with --fragments --every --status --most --timeout --quiet' ;;
+    'carry '*) _cuestore_files 'state|layers' ;;
+    'layers 1 '*) _cuestore_offer 'put remove try merge export report print list show why' ;;
+    'layers '*' -'*) _cuestore_offer '--policy --limit --at' ;;
+    'check 1 -'*) _cuestore_offer '--json --github' ;;
+    'fmt 1 -'*) _cuestore_offer '--check' ;;
+    'at 1 -'*) _cuestore_offer '--json' ;;
+    'lsp 1 '*) _cuestore_offer '--log' ;;
+    'from-json '*' -'*) _cuestore_offer '--decimals-as-text --scale' ;;
+    'from-json '*) _cuestore_files json ;;
+    'fmt '*) _cuestore_files cue ;;
+    'why 1 '* | 'at 1 '* | 'serve '* | 'push 1 '* | 'git-setup '*) COMPREPLY=() ;;
+    *) _cuestore_files 'cue|state|layers' ;;
   esac
 }
-_cuestore_carry() {
-  case $COMP_CWORD in
-    1) mapfile -t COMPREPLY < <(compgen -W 'push pull sync' -- "${COMP_WORDS[1]}") ;;
-    2) mapfile -t COMPREPLY < <(compgen -W 'folder: git: etcd: redis: rediss: blob:' -- "${COMP_WORDS[2]}") ;;
-    *) mapfile -t COMPREPLY < <(compgen -f -X '!*.@(state|layers)' -- "${COMP_WORDS[COMP_CWORD]}") ;;
+
+_cuestore() {
+  local name=${COMP_WORDS[0]##*/}
+  case $name in
+    cuestore)
+      if [ "$COMP_CWORD" -eq 1 ]; then _cuestore_offer "$_cuestore_commands $_cuestore_tools"
+      else _cuestore_argument "${COMP_WORDS[1]}" $((COMP_CWORD - 1)); fi ;;
+    cuelayers) _cuestore_argument layers "$COMP_CWORD" ;;
+    *) _cuestore_argument "${name#cuestore-}" "$COMP_CWORD" ;;
   esac
 }
 shopt -s extglob
-complete -o filenames -F _cuestore cuestore cuestore-explain
-complete -o filenames -F _cuelayers cuelayers
-complete -f -o plusdirs cuestore-add
-complete -o filenames -F _cuestore_path cuestore-why cuestore-at
-complete -f -X '!*.@(cue|state)' -o plusdirs cuestore-diff
-complete -o filenames -o nospace -F _cuestore_carry carry
+complete -o filenames -F _cuestore cuestore cuelayers cuestore-add cuestore-at cuestore-check cuestore-diff cuestore-explain cuestore-fmt \
+  cuestore-lsp cuestore-site cuestore-to cuestore-why from-json
+complete -o filenames -o nospace -F _cuestore carry
