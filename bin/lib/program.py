@@ -148,18 +148,20 @@ def styled(text, style, stream=sys.stdout):
 class Progress:
     """A line on a terminal's standard error that says how far a tool is, once it has worked for a second."""
 
-    def __init__(self, what, count):
+    def __init__(self, what, count=None):
         self.what, self.count, self.began, self.is_shown = what, count, time.monotonic(), False
 
     def step(self, number):
         if sys.stderr.isatty() and time.monotonic() - self.began > 1:
             self.is_shown = True
-            sys.stderr.write(f"\r{self.what}: {number} of {self.count}\033[K")
+            of = f" of {self.count}" if self.count else ""
+            sys.stderr.write(f"\r{self.what}: {number}{of}\033[K")
             sys.stderr.flush()
 
     def end(self):
         if self.is_shown:
             sys.stderr.write("\r\033[K")
+            sys.stderr.flush()
 
 
 def stop(name, message, status=1):
