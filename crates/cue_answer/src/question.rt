@@ -29,7 +29,7 @@ impl SiteQuestion {
     /// The same question, where its answer is a text: state bytes are none.
     pub fn as_text(self) -> Option<TextQuestion>
         ensures text { IfSome result (λ question. of_text question ≡ self) }
-        ensures state { IfNone result (self ≡ Question.State) }
+        ensures state { IfNone result (self ≡ SiteQuestion.State) }
     {
         match self {
             SiteQuestion::Export => Some(TextQuestion::Export),

@@ -86,7 +86,7 @@ where
         H.Input.called H.Output.called H.Input.failed H.Output.failed))
         rt.old rt.new (R.remaining input.old))
         (passage_of W.contents out.old out.new) (passage_of F.contents faults.old faults.new) result)
-        ⊎ ((fault : Fault) × ((fault ≡ Fault.Usage) ⊎ IsMemoryFault fault)
+        ⊎ ((fault : CommandError) × ((fault ≡ CommandError.Usage) ⊎ IsMemoryFault fault)
         × EndsByFault fault result
         (passage_of W.contents out.old out.new) (passage_of F.contents faults.old faults.new)
         × (rt.new ≡ rt.old)) }

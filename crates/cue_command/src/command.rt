@@ -60,7 +60,7 @@ const MAX_COUNT: u16 = 1_000;
 
 /// The words after the program's name. One that is not UTF-8 is a usage fault.
 pub fn given_words<H: AllocGlobal + Env>(rt: &H) -> Result<Vec<String>, CommandError>
-    ensures fault { IfErr result (λ fault. (fault ≡ Fault.Usage) ⊎ IsMemoryFault fault) }
+    ensures fault { IfErr result (λ fault. (fault ≡ CommandError.Usage) ⊎ IsMemoryFault fault) }
 {
     match env::args(rt) {
         Ok(all) => Ok(after_the_name(rt.alloc(), all)?),
@@ -78,8 +78,8 @@ fn after_the_name(alloc: Global, all: Args) -> Result<Vec<String>, AllocError>
 /// What is told where the words can't be read.
 pub fn unread_fault(error: &io::Error) -> CommandError
     ensures memory { error_kind error.now ≡ OutOfMemory → IsMemoryFault result }
-    ensures usage { error_kind error.now ≢ OutOfMemory → result ≡ Fault.Usage }
-    ensures fault { (result ≡ Fault.Usage) ⊎ IsMemoryFault result }
+    ensures usage { error_kind error.now ≢ OutOfMemory → result ≡ CommandError.Usage }
+    ensures fault { (result ≡ CommandError.Usage) ⊎ IsMemoryFault result }
 {
     match error.kind() {
         io::ErrorKind::OutOfMemory => CommandError::Refused(RunRefusal::Run(Kind::Memory)),
@@ -96,7 +96,7 @@ pub fn command_of<'w>(alloc: Global, words: &'w [String]) -> Result<Command<'w>,
     ensures asks { IfOk result (λ command.
         meaning_of_words (map string_bytes words.now) ≡ Some (asked_by_words command)) }
     ensures fault { IfErr result (λ fault.
-        ((fault ≡ Fault.Usage) × (meaning_of_words (map string_bytes words.now) ≡ None))
+        ((fault ≡ CommandError.Usage) × (meaning_of_words (map string_bytes words.now) ≡ None))
         ⊎ IsMemoryFault fault) }
 {
     let matches = matches_of(alloc, words)?;
@@ -109,7 +109,7 @@ fn matches_of<'w>(alloc: Global, words: &'w [String]) -> Result<ArgMatches<'w>, 
     ensures found { IfOk result (λ matches. meaning_of_words (map string_bytes words.now)
         ≡ option_and_then (λ p. meaning_of_rows p.0 p.1) (subcommand_rows_of matches)) }
     ensures fault { IfErr result (λ fault.
-        ((fault ≡ Fault.Usage) × (meaning_of_words (map string_bytes words.now) ≡ None))
+        ((fault ≡ CommandError.Usage) × (meaning_of_words (map string_bytes words.now) ≡ None))
         ⊎ IsMemoryFault fault) }
 {
     let store = store(alloc)?;
@@ -122,8 +122,8 @@ fn matches_of<'w>(alloc: Global, words: &'w [String]) -> Result<ArgMatches<'w>, 
 /// What is told of words that `clap` refuses.
 fn usage_fault(kind: ErrorKind) -> CommandError
     ensures memory { kind ≡ ErrorKind.OutOfMemory → IsMemoryFault result }
-    ensures fault { (result ≡ Fault.Usage) ⊎ IsMemoryFault result }
-    ensures usage { result ≡ Fault.Usage → (kind ≡ ErrorKind.OutOfMemory → ⊥) }
+    ensures fault { (result ≡ CommandError.Usage) ⊎ IsMemoryFault result }
+    ensures usage { result ≡ CommandError.Usage → (kind ≡ ErrorKind.OutOfMemory → ⊥) }
 {
     match kind {
         ErrorKind::OutOfMemory => CommandError::Refused(RunRefusal::Run(Kind::Memory)),

@@ -40,7 +40,7 @@ impl Doors {
     /// Why a request is not let in, if it is not.
     pub fn bar(&self, request: &Request<Bytes>) -> Option<DoorRefusal>
         ensures some { IfSome result (IsBarred self.now request.now) }
-        ensures none { IfNone result ((bar : Bar) → ¬ IsBarred self.now request.now bar) }
+        ensures none { IfNone result ((bar : DoorRefusal) → ¬ IsBarred self.now request.now bar) }
     {
         if self.is_for_another(request) {
             return Some(DoorRefusal::OtherHost);

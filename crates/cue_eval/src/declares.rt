@@ -293,11 +293,11 @@ fn at_root(alloc: Global, table: Table<Declared>, row: &Declared) -> Result<Tabl
 
 /// Whether something is told of a struct literal at its own place.
 fn is_declared_here(whose: LiteralSelection, declarations: &[Declaration]) -> bool
-    ensures told { IsTrue result → (ds : List DefinitionOf) (meaning_of_number : ℕ → Core) (asked : Asked) →
+    ensures told { IsTrue result → (ds : List DefinitionOf) (meaning_of_number : ℕ → Core) (asked : DeclaredQuestion) →
         (literal_declares asked (meant_members ds meaning_of_number (tree.entries declarations.now)) ≡ true)
         ↔ own_literals_declare whose asked (meant_members ds meaning_of_number (tree.entries declarations.now)) }
     ensures untold { ¬ IsTrue result → (ds : List DefinitionOf) (meaning_of_number : ℕ → Core)
-        (asked : Asked) →
+        (asked : DeclaredQuestion) →
         ¬ own_literals_declare whose asked (meant_members ds meaning_of_number (tree.entries declarations.now)) }
 {
     match whose {
@@ -308,7 +308,7 @@ fn is_declared_here(whose: LiteralSelection, declarations: &[Declaration]) -> bo
 
 /// What a struct literal declares.
 fn declare_struct(alloc: Global, declarations: &[Declaration]) -> Result<Declared, Memory>
-    ensures { IfOk result (λ known. (ds : List DefinitionOf) (meaning_of_number : ℕ → Core) (asked : Asked) →
+    ensures { IfOk result (λ known. (ds : List DefinitionOf) (meaning_of_number : ℕ → Core) (asked : DeclaredQuestion) →
         DeclaredRefuses known asked ↔ (literal_declares asked (meant_members ds meaning_of_number (tree.entries declarations.now))
         ≡ true)) }
 {

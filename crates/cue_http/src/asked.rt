@@ -172,7 +172,7 @@ impl Asked {
     /// Takes what an answer brings.
     fn take<S: Gathers>(&mut self, question: &SourceQuestion, service: &mut S) -> AskOutcome
         // A place is remembered only where what came with it was taken.
-        ensures { (self.new.cursor ≡ self.old.cursor) ⊎ (self.new.cursor ≡ None) ⊎ (result ≡ Outcome.Taken) }
+        ensures { (self.new.cursor ≡ self.old.cursor) ⊎ (self.new.cursor ≡ None) ⊎ (result ≡ AskOutcome.Taken) }
     {
         match question.answer() {
             SourceAnswer::State(bytes) => {

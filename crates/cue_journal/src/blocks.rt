@@ -86,7 +86,7 @@ impl Batch {
             × (recovered_pieces (batch_bytes self.new)
             ≡ recovered_pieces (batch_bytes self.old) ++ (first ∷ rest.now) ∷ [])) }
         ensures fits { OnOk result (length rest.now < 2 ^ 32) }
-        ensures long { IsErrOf result Unfit.TooLong ↔ (2 ^ 32 ≤ length rest.now + 1) }
+        ensures long { IsErrOf result BlockError.TooLong ↔ (2 ^ 32 ≤ length rest.now + 1) }
         ensures appends { OnOk result ((more : List ℕ)
             × (batch_bytes self.new ≡ batch_bytes self.old ++ more)) }
         ensures err { OnErr result (batch_bytes self.new ≡ batch_bytes self.old) }

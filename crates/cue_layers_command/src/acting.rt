@@ -63,7 +63,7 @@ where
     ensures { ((words : List (List ℕ)) × IsLayersRun words
         (layers_run_world H.held H.makes rt.old rt.new (R.remaining input.old))
         (passage_of W.contents out.old out.new) (passage_of F.contents faults.old faults.new) result)
-        ⊎ ((fault : Fault) × ((fault ≡ Fault.Usage) ⊎ IsMemoryLayersFault fault)
+        ⊎ ((fault : LayersCommandError) × ((fault ≡ LayersCommandError.Usage) ⊎ IsMemoryLayersFault fault)
         × EndsByLayersFault fault result
         (passage_of W.contents out.old out.new) (passage_of F.contents faults.old faults.new)
         × (rt.new ≡ rt.old)) }
@@ -193,8 +193,8 @@ fn refuse<W: Write, F: Write>(
     out: &mut Output<W>,
     faults: &mut Output<F>,
 ) -> u8
-    ensures { IsMeaning (Fault.Refused refusal.now) meaning.now
-        → IsLayersRefused (Fault.Refused refusal.now) result (passage_of W.contents out.old out.new)
+    ensures { IsMeaning (LayersCommandError.Refused refusal.now) meaning.now
+        → IsLayersRefused (LayersCommandError.Refused refusal.now) result (passage_of W.contents out.old out.new)
         (passage_of F.contents faults.old faults.new) }
 {
     let mut line = text_of(refusal);

@@ -85,7 +85,7 @@ const ROW_LIMIT: u64 = 10_000_000;
 
 /// The arguments behind the program's name. One that is not UTF-8 is a usage fault.
 pub fn given_words<H: AllocGlobal + Env>(rt: &H) -> Result<Vec<String>, LayersCommandError>
-    ensures fault { IfErr result (λ fault. (fault ≡ Fault.Usage) ⊎ IsMemoryLayersFault fault) }
+    ensures fault { IfErr result (λ fault. (fault ≡ LayersCommandError.Usage) ⊎ IsMemoryLayersFault fault) }
 {
     match env::args(rt) {
         Ok(all) => Ok(after_the_name(rt.alloc(), all)?),
@@ -103,8 +103,8 @@ fn after_the_name(alloc: Global, all: Args) -> Result<Vec<String>, AllocError>
 /// What ends a run whose arguments can't be read.
 pub fn unread_fault(error: &io::Error) -> LayersCommandError
     ensures memory { error_kind error.now ≡ OutOfMemory → IsMemoryLayersFault result }
-    ensures usage { error_kind error.now ≢ OutOfMemory → result ≡ Fault.Usage }
-    ensures fault { (result ≡ Fault.Usage) ⊎ IsMemoryLayersFault result }
+    ensures usage { error_kind error.now ≢ OutOfMemory → result ≡ LayersCommandError.Usage }
+    ensures fault { (result ≡ LayersCommandError.Usage) ⊎ IsMemoryLayersFault result }
 {
     match error.kind() {
         io::ErrorKind::OutOfMemory => memory(),
@@ -124,7 +124,7 @@ pub fn command_of<'w>(
     ensures asks { IfOk result (λ command.
         meaning_of_arguments (map string_bytes words.now) ≡ Some (asked_by_arguments command)) }
     ensures fault { IfErr result (λ fault.
-        ((fault ≡ Fault.Usage) × (meaning_of_arguments (map string_bytes words.now) ≡ None))
+        ((fault ≡ LayersCommandError.Usage) × (meaning_of_arguments (map string_bytes words.now) ≡ None))
         ⊎ IsMemoryLayersFault fault) }
 {
     let matches = matches_of(alloc, words)?;
@@ -137,7 +137,7 @@ fn matches_of<'w>(alloc: Global, words: &'w [String]) -> Result<ArgMatches<'w>, 
     ensures found { IfOk result (λ matches. meaning_of_arguments (map string_bytes words.now)
         ≡ option_and_then (λ p. meaning_of_argument_rows p.0 p.1) (subcommand_rows_of matches)) }
     ensures fault { IfErr result (λ fault.
-        ((fault ≡ Fault.Usage) × (meaning_of_arguments (map string_bytes words.now) ≡ None))
+        ((fault ≡ LayersCommandError.Usage) × (meaning_of_arguments (map string_bytes words.now) ≡ None))
         ⊎ IsMemoryLayersFault fault) }
 {
     let layers = layers(alloc)?;
@@ -150,8 +150,8 @@ fn matches_of<'w>(alloc: Global, words: &'w [String]) -> Result<ArgMatches<'w>, 
 /// What ends a run whose arguments `clap` refuses.
 fn usage_fault(kind: ErrorKind) -> LayersCommandError
     ensures memory { kind ≡ ErrorKind.OutOfMemory → IsMemoryLayersFault result }
-    ensures fault { (result ≡ Fault.Usage) ⊎ IsMemoryLayersFault result }
-    ensures usage { result ≡ Fault.Usage → (kind ≡ ErrorKind.OutOfMemory → ⊥) }
+    ensures fault { (result ≡ LayersCommandError.Usage) ⊎ IsMemoryLayersFault result }
+    ensures usage { result ≡ LayersCommandError.Usage → (kind ≡ ErrorKind.OutOfMemory → ⊥) }
 {
     match kind {
         ErrorKind::OutOfMemory => memory(),

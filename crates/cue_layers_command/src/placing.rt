@@ -78,7 +78,7 @@ where
 /// `Usage` where it is none, and want of memory.
 fn steps_of(alloc: Global, path: &str) -> Result<Vec<Step>, LayersCommandError>
     ensures steps { IfOk result (λ steps. path_text (map step_of steps.items) ≡ path.now) }
-    ensures fault { IfErr result (λ fault. IsMemoryLayersFault fault ⊎ (fault ≡ Fault.Usage)) }
+    ensures fault { IfErr result (λ fault. IsMemoryLayersFault fault ⊎ (fault ≡ LayersCommandError.Usage)) }
 {
     match read_path(alloc, path)? {
         Some(steps) => Ok(steps),

@@ -29,7 +29,7 @@ pub fn answer_of_replies(
     ensures { ((to_inputs : List (List ℕ)) × (last : List ℕ)
         × (all_items replies.now ≡ to_inputs ++ last ∷ []) × (length to_inputs ≡ inputs)
         × ReportReplies to_inputs last result)
-        ⊎ ((length replies.now ≢ inputs + 1) × IsErrOf result Halt.Device) }
+        ⊎ ((length replies.now ≢ inputs + 1) × IsErrOf result NetError.Device) }
 {
     let Some((last, to_inputs)) = replies.split_last() else {
         return Err(NetError::Device);

@@ -23,7 +23,7 @@ impl PieceCursor {
     /// The cursor that a text tells.
     pub fn read(text: &str) -> Option<PieceCursor>
         ensures some { IfSome result (λ cursor. IsCursor text.now cursor.run cursor.count) }
-        ensures written { (cursor : Cursor) → cursor.run < 2 ^ 64 → cursor.count < 2 ^ 64
+        ensures written { (cursor : PieceCursor) → cursor.run < 2 ^ 64 → cursor.count < 2 ^ 64
             → text.now ≡ cursor_text cursor.run cursor.count → result ≡ Some cursor }
     {
         let (run, count) = text.split_once('-')?;

@@ -47,9 +47,9 @@ fn put_behind<S: FileSystem>(
     name: &str,
     contents: &Contents<'_>,
 ) -> Result<(), RunError>
-    ensures put { OnOk result (PutsAt S.makes name.now Form.Link (bytes_of_contents contents.now)
+    ensures put { OnOk result (PutsAt S.makes name.now FileForm.Link (bytes_of_contents contents.now)
         shelf.old shelf.new) }
-    ensures stopped { OnErr result (StopsAtCall S.makes name.now Form.Link shelf.old shelf.new) }
+    ensures stopped { OnErr result (StopsAtCall S.makes name.now FileForm.Link shelf.old shelf.new) }
     ensures fault { IfErr result (λ stop. IsDeviceStop stop ⊎ IsMemoryStop stop) }
 {
     match shelf.look_behind(name)? {
@@ -65,9 +65,9 @@ fn put_at_end<S: FileSystem>(
     name: &str,
     contents: &Contents<'_>,
 ) -> Result<(), RunError>
-    ensures put { OnOk result (PutsBehind S.makes name.now Form.File (bytes_of_contents contents.now)
+    ensures put { OnOk result (PutsBehind S.makes name.now FileForm.File (bytes_of_contents contents.now)
         shelf.old shelf.new) }
-    ensures stopped { OnErr result (StopsBehind S.makes name.now Form.File shelf.old shelf.new) }
+    ensures stopped { OnErr result (StopsBehind S.makes name.now FileForm.File shelf.old shelf.new) }
     ensures fault { IfErr result (λ stop. IsDeviceStop stop ⊎ IsMemoryStop stop) }
 {
     let place = shelf.follow(alloc, name)?;

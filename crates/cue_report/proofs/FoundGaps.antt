@@ -16,7 +16,8 @@ use Rattle.cue_report.specs.Inner.GapSearch.{WritesGapsWhere, IsGapAt, IsBarred,
 use Rattle.cue_report.specs.Listing.{Lists}
 use Rattle.cue_report.specs.Inner.Search.{is_demanded, is_refused}
 use Rattle.cue_report.specs.declared.gap.Gap.{Gap}
-use Rattle.cue_report.specs.Telling.{Tally, WritesPieces}
+use Rattle.cue_report.specs.Telling.{Tally}
+use Rattle.cue_report.specs.Inner.Telling.{WritesPieces}
 use Rattle.cue_report.proofs.Texts.{listed}
 use Rattle.cue_report.proofs.Telling.{grows_none}
 use Rattle.cue_report.proofs.Empty.{same_truth}

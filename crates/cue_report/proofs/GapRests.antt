@@ -14,7 +14,8 @@ use Rattle.cue_table.specs.Tree.{Tree, node, none, Rest, no_rest, onward, row_of
 use Rattle.cue_report.specs.Inner.GapSearch.{IsGapIn, IsGapAmong, IsGapOnward, WritesGapsWhere, gap_above, free_elements}
 use Rattle.cue_report.specs.Listing.{Lists}
 use Rattle.cue_report.specs.Inner.Search.{least_at, rest_from}
-use Rattle.cue_report.specs.Telling.{Tally, WritesPieces}
+use Rattle.cue_report.specs.Telling.{Tally}
+use Rattle.cue_report.specs.Inner.Telling.{WritesPieces}
 use Rattle.cue_report.specs.declared.gap.Gap.{Gap}
 use Rattle.cue_report.proofs.Descent.{seen}
 use Rattle.cue_report.proofs.Elements.{less_index}

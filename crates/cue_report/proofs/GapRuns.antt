@@ -11,7 +11,8 @@ use Rattle.cue_table.specs.declared.step_ref.StepRef.{StepRef}
 use Rattle.cue_table.specs.Tree.{Tree, none, child, row_of}
 use Rattle.cue_report.specs.Inner.GapSearch.{IsGapIn, IsGapAmong, IsGapBelow, WritesGapsWhere, gap_above}
 use Rattle.cue_report.specs.Inner.Search.{is_demanded, is_refused, least_at}
-use Rattle.cue_report.specs.Telling.{Tally, WritesPieces}
+use Rattle.cue_report.specs.Telling.{Tally}
+use Rattle.cue_report.specs.Inner.Telling.{WritesPieces}
 use Rattle.cue_report.specs.declared.gap.Gap.{Gap}
 use Rattle.cue_report.proofs.Found.{found_first}
 use Rattle.cue_report.proofs.FoundGaps.{place_of}

@@ -18,8 +18,8 @@ use Rattle.cue_table.specs.Tree.{Tree, Children, none, child, row_of, rest_below
 use Rattle.cue_report.specs.Inner.GapSearch.{IsGapIn, IsGapHere, IsGapBelow, IsGapAmong, IsGapOnward, IsFront, WritesGapsPrefixWhere, WritesGapsWhere, gap_above, gaps_above, free_elements, free_before, next_after}
 use Rattle.cue_report.specs.Listing.{Lists}
 use Rattle.cue_report.specs.Inner.Search.{is_demanded, is_refused, least_at, rest_from}
-use Rattle.cue_report.specs.Telling.{Tally, WritesPieces}
-use Rattle.cue_report.specs.Inner.Telling.{WritesPiecesPrefix}
+use Rattle.cue_report.specs.Telling.{Tally}
+use Rattle.cue_report.specs.Inner.Telling.{WritesPieces, WritesPiecesPrefix}
 use Rattle.cue_report.specs.declared.gap.Gap.{Gap}
 use Rattle.cue_report.proofs.FoundGaps.{place_of}
 use Rattle.cue_report.proofs.GapFronts.{front_over, front_walked, front_ended, fronts_none, same_fronts}

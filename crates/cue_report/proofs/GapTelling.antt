@@ -6,8 +6,8 @@ use Rattle.std.proofs.lemmas.List.Concat.{flat_map-append}
 use Rattle.cue_lattice.specs.Path as paths
 use Rattle.cue_lattice.specs.Path.{index, Path}
 use Rattle.cue_report.specs.Inner.GapSearch.{gap_above, gaps_above, free_at, free_elements}
-use Rattle.cue_report.specs.Telling.{Tally, WritesPieces}
-use Rattle.cue_report.specs.Inner.Telling.{WritesPiecesPrefix}
+use Rattle.cue_report.specs.Telling.{Tally}
+use Rattle.cue_report.specs.Inner.Telling.{WritesPieces, WritesPiecesPrefix}
 use Rattle.cue_report.specs.declared.gap.Gap.{Gap}
 use Rattle.cue_report.proofs.Telling.{grows_then, starts_now, starts_later}
 

@@ -7,7 +7,8 @@ use Rattle.cue_row.specs.declared.parts.RowParts.{RowParts as Row}
 use Rattle.cue_table.specs.Tree.{Tree}
 use Rattle.cue_report.specs.Inner.GapSearch.{IsGapIn, IsGapAmong, WritesGapsWhere, gap_above}
 use Rattle.cue_report.specs.Inner.Search.{each_index}
-use Rattle.cue_report.specs.Telling.{Tally, WritesPieces}
+use Rattle.cue_report.specs.Telling.{Tally}
+use Rattle.cue_report.specs.Inner.Telling.{WritesPieces}
 use Rattle.cue_report.specs.declared.conflict.Conflict.{Conflict}
 use Rattle.cue_report.specs.declared.gap.Gap.{Gap}
 use Rattle.cue_report.proofs.Order.{all_from}

@@ -3,7 +3,8 @@ use Rattle.std.proofs.Common.{◌≡◌, ℕ, ◌+◌, List, [], ◌++◌, lengt
 use Rattle.std.proofs.lemmas.List.{append-nil}
 use Rattle.std.specs.Io.KnownBytes.{Appends}
 use Rattle.cue_device.specs.Texts.{WritesPrefix}
-use Rattle.cue_report.specs.Telling.{Tally, ExtendsKnown, WritesPieces}
+use Rattle.cue_report.specs.Telling.{Tally}
+use Rattle.cue_report.specs.Inner.Telling.{ExtendsKnown, WritesPieces}
 use Rattle.cue_report.specs.Inner.Telling.{WritesPiecesPrefix}
 
 extends_none : {X : Type 0} (known : Option (List X)) → ExtendsKnown known known []

@@ -16,8 +16,8 @@ use Rattle.cue_table.specs.Inner.Walks.{first_child}
 use Rattle.cue_table.proofs.Spanned.{left_size}
 use Rattle.cue_report.specs.declared.conflict.Conflict.{Conflict}
 use Rattle.cue_report.specs.Inner.Search.{conflict_under, conflicts_under, only_if, has_no_value, conflict_here, has_level, is_demanded, is_refused, conflicts_in, conflicts_below, conflicts_onward, each_index, least_at, rest_from}
-use Rattle.cue_report.specs.Telling.{Tally, WritesPieces}
-use Rattle.cue_report.specs.Inner.Telling.{WritesPiecesPrefix}
+use Rattle.cue_report.specs.Telling.{Tally}
+use Rattle.cue_report.specs.Inner.Telling.{WritesPieces, WritesPiecesPrefix}
 use Rattle.cue_report.proofs.Runs.{span_first}
 use Rattle.cue_report.proofs.Telling.{grows_then, starts_now, starts_later}
 

@@ -13,8 +13,7 @@ ghost use Rattle.cue_report.specs.Listing.{AreConflicts};
 ghost use Rattle.cue_report.specs.Inner.Search.{has_no_value, conflict_here, conflicts_in};
 ghost use Rattle.cue_report.specs.Inner.Search.{conflicts_below, conflicts_onward, each_index};
 ghost use Rattle.cue_report.specs.Inner.Search.{conflicts_under};
-ghost use Rattle.cue_report.specs.Telling.{WritesPieces};
-ghost use Rattle.cue_report.specs.Inner.Telling.{WritesPiecesPrefix};
+ghost use Rattle.cue_report.specs.Inner.Telling.{WritesPieces, WritesPiecesPrefix};
 ghost use Rattle.cue_report.specs.Inner.Trail.{shown_steps};
 
 use crate::ReportPlace;

@@ -14,8 +14,7 @@ ghost use Rattle.cue_report.specs.Inner.GapSearch.{gaps_above};
 ghost use Rattle.cue_report.specs.Gaps.{AreGaps};
 ghost use Rattle.cue_report.specs.Lines.{WritesGapsPrefix, WritesGaps};
 ghost use Rattle.cue_report.specs.Inner.Search.{lacks_value, least_at};
-ghost use Rattle.cue_report.specs.Telling.{WritesPieces};
-ghost use Rattle.cue_report.specs.Inner.Telling.{WritesPiecesPrefix};
+ghost use Rattle.cue_report.specs.Inner.Telling.{WritesPieces, WritesPiecesPrefix};
 ghost use Rattle.cue_report.specs.Inner.Trail.{shown_steps};
 
 use crate::demand::{demanded_end, is_demanded, is_refused, least_of, rest_from};

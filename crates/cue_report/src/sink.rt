@@ -1,7 +1,7 @@
 ghost use Rattle.std.specs.Prelude.{◌≡◌, ◌<◌, ◌-◌, List, length, OnOk, OnErr};
 ghost use Rattle.cue_report.specs.Inner.GapSearch.{gaps_above, free_elements};
-ghost use Rattle.cue_report.specs.Telling.{Tally, WritesPieces};
-ghost use Rattle.cue_report.specs.Inner.Telling.{WritesPiecesPrefix};
+ghost use Rattle.cue_report.specs.Telling.{Tally};
+ghost use Rattle.cue_report.specs.Inner.Telling.{WritesPieces, WritesPiecesPrefix};
 ghost use Rattle.cue_report.specs.Inner.Trail.{shown_steps};
 ghost use Rattle.cue_report.specs.declared.conflict.Conflict.{Conflict as Conflicts};
 ghost use Rattle.cue_report.specs.declared.gap.Gap.{Gap as Gaps};

@@ -4,8 +4,7 @@ ghost use Rattle.cue_lattice.specs.Path.{index};
 ghost use Rattle.cue_row.specs.PathText.{label_text, path_text, step_text};
 ghost use Rattle.cue_table.specs.StepsOfCode.{step_at};
 ghost use Rattle.cue_report.specs.Lines.{conflict_line, gap_line, report_line_end};
-ghost use Rattle.cue_report.specs.Telling.{WritesPieces};
-ghost use Rattle.cue_report.specs.Inner.Telling.{WritesPiecesPrefix};
+ghost use Rattle.cue_report.specs.Inner.Telling.{WritesPieces, WritesPiecesPrefix};
 ghost use Rattle.cue_report.specs.Inner.Trail.{dotted_behind, shown_steps};
 
 use crate::report::{cause, end_line, gap_reason};

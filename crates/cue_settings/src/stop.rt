@@ -44,7 +44,7 @@ pub enum SettingsError {
 impl SettingsError {
     /// Why an entry of a journal is refused: memory ran out, or the journal is damaged.
     pub fn of_entry(why: Refusal) -> SettingsError
-        ensures memory { why.kind ≡ kinds.Memory → result ≡ Stop.OutOfMemory }
+        ensures memory { why.kind ≡ kinds.Memory → result ≡ SettingsError.OutOfMemory }
         ensures damage { why.kind ≢ kinds.Memory → IsDamage result }
     {
         match why.kind {
@@ -55,7 +55,7 @@ impl SettingsError {
 
     /// A file that is damaged at a byte.
     pub fn damaged(alloc: Global, file: &str, at: usize) -> SettingsError
-        ensures { (result ≡ Stop.OutOfMemory) ⊎ IsDamaged file.now at result }
+        ensures { (result ≡ SettingsError.OutOfMemory) ⊎ IsDamaged file.now at result }
     {
         match String::from_str(alloc, file) {
             Ok(file) => SettingsError::Damaged { file, at },
@@ -70,7 +70,7 @@ impl SettingsError {
         file: &str,
         error: io::Error,
     ) -> SettingsError
-        ensures { (result ≡ Stop.OutOfMemory) ⊎ IsSystem operation.now error result }
+        ensures { (result ≡ SettingsError.OutOfMemory) ⊎ IsSystem operation.now error result }
     {
         match String::from_str(alloc, file) {
             Ok(file) => SettingsError::System {

@@ -9,7 +9,8 @@ use Rattle.cue_syntax.specs.declared.tree.Expr.{Expr}
 use Rattle.cue_syntax.specs.declared.tree.Term.{Term}
 use Rattle.cue_syntax.specs.declared.tree.Declaration.{Declaration}
 use Rattle.cue_syntax.specs.Spelling.{SpelledPiece, SpellsTree, Follows, IsTokenPlace, one, one_at, place_first, comma_if, star_if, spell, spell_label, spell_elements, spell_dots, spell_rest, spell_branch, spell_branches, spell_entry, spell_entries}
-use Rattle.cue_syntax.specs.Grammar.{IsRightRest, AreRight, IsUnary, IsTerm, AreUnary, TwoElements, TwoBranches, AreRightBranches, AreNested, EndsEntries, EndsElements, levels_of_elements, levels_of_rest, levels_of_branches, IsExpression, IsTermOf, IsEntry, IsLiteral, AreElementTokens, AreEntries, AreBraced}
+use Rattle.cue_syntax.specs.Grammar.{IsRightRest, AreRight, IsUnary, IsTerm, AreUnary, TwoElements, TwoBranches, AreRightBranches, AreNested, EndsEntries, EndsElements, levels_of_elements, levels_of_rest, levels_of_branches, IsExpression, IsLiteral, AreEntries}
+use Rattle.cue_syntax.specs.Inner.Grammar.{IsTermOf, IsEntry, AreElementTokens, AreBraced}
 use Rattle.cue_syntax.specs.Inner.Grammar.{IsRestOf}
 use Rattle.cue_syntax.specs.Syntax.{Expression, Elements, no_elements, element, Entries, parenthesis, struct, close, list, conjunction, disjunction, branch, field, definition, expression, branch_tree, entry_tree, elements_of_list, branches_of_list, entries, Rest, no_rest, any_rest, each_rest}
 use Rattle.cue_syntax.proofs.ReadingsJoin.{reads_then, reads_none, reads_placed}

@@ -180,16 +180,6 @@ pub record IsExpression (room : ℕ) (tokens : List Token) (e : Expression)
   pub right : IsRight e
   pub levels : levels e ≤ room
 
-pub record IsTermOf (room : ℕ) (tokens : List Token) (b : Branch) (rest : List Token) : Type 0 where
-  pub reads : SpellsTree tokens (spell_branch b) rest
-  pub right : IsRightBranch b
-  pub levels : levels_of_branch b ≤ room
-
-pub record IsEntry (room : ℕ) (tokens : List Token) (e : Entry) (rest : List Token) : Type 0 where
-  pub reads : SpellsTree tokens (spell_entry e) rest
-  pub right : IsRightEntry e
-  pub levels : levels_of_entry e ≤ room
-
 -- an expression that holds no other
 pub record IsLiteral (tokens : List Token) (e : Expression) (rest : List Token) : Type 0 where
   pub reads : SpellsTree tokens (spell e) rest
@@ -197,28 +187,10 @@ pub record IsLiteral (tokens : List Token) (e : Expression) (rest : List Token) 
   pub unary : IsUnary e
   pub levels : levels e ≡ 0
 
--- elements and then a comma, where the truth value says that one follows
-pub record AreElementTokens (room : ℕ) (tokens : List Token) (es : Elements) (comma : Bool)
-    (rest : List Token) : Type 0 where
-  pub reads : SpellsTree tokens (spell_elements (kinds.Mark points.Comma) es ++ comma_if comma) rest
-  pub right : AreRight es
-  pub ends : EndsElements comma no_rest es
-  pub levels : levels_of_elements es ≤ room
-
 pub record AreEntries (room : ℕ) (tokens : List Token) (es : Entries) (comma : Bool)
     (rest : List Token) : Type 0 where
   pub reads : SpellsTree tokens (spell_entries es ++ comma_if comma) rest
   pub right : AreRightEntries es
-  pub ends : EndsEntries comma es
-  pub levels : levels_of_entries es ≤ room
-
--- declarations, and the brace that closes them
-pub record AreBraced (room : ℕ) (tokens : List Token) (es : Entries) (comma : Bool)
-    (rest : List Token) : Type 0 where
-  pub reads : SpellsTree tokens
-      (spell_entries es ++ comma_if comma ++ one (kinds.Mark points.CloseBrace)) rest
-  pub right : AreRightEntries es
-  pub nested : AreNested es
   pub ends : EndsEntries comma es
   pub levels : levels_of_entries es ≤ room
 

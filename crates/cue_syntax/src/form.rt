@@ -220,8 +220,8 @@ fn declaration_form(cursor: TokenCursor, spot: Position) -> Option<Form>
 
 /// The form that stands after the colon of a field or a definition.
 fn value_form(cursor: TokenCursor) -> Option<Form>
-    ensures { MatchOption result (HasNoForm Spot.Value cursor.entry.rest.now) (λ form.
-        IsFormAt form Spot.Value cursor.entry.rest.now) }
+    ensures { MatchOption result (HasNoForm Position.Value cursor.entry.rest.now) (λ form.
+        IsFormAt form Position.Value cursor.entry.rest.now) }
 {
     if begins_hidden_label(cursor) {
         return Some(Form::HiddenLabel);

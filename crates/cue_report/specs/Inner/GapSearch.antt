@@ -17,8 +17,8 @@ use Rattle.cue_report.specs.Answers.{IsDemanded, HasNoValue, IsNotAllowed}
 use Rattle.cue_report.specs.Gaps.{IsMissing, IsFreeRow, HasNoChoice}
 use Rattle.cue_report.specs.Listing.{IsRising, Lists}
 use Rattle.cue_report.specs.Inner.Search.{is_demanded, is_refused}
-use Rattle.cue_report.specs.Telling.{Tally, WritesPieces}
-use Rattle.cue_report.specs.Inner.Telling.{WritesPiecesPrefix}
+use Rattle.cue_report.specs.Telling.{Tally}
+use Rattle.cue_report.specs.Inner.Telling.{WritesPieces, WritesPiecesPrefix}
 use Rattle.cue_report.specs.declared.gap.Gap.{Gap}
 
 -- what is refused at the place of a row, whatever its path

@@ -2,8 +2,8 @@ use Rattle.std.proofs.Common.{ap, subst, ◌∙◌, false, ℕ, List, Option}
 use Rattle.std.specs.List.{flat_map}
 use Rattle.cue_report.specs.Lines.{conflict_line, WritesConflictsPrefix}
 use Rattle.cue_report.specs.Inner.Search.{conflicts_in}
-use Rattle.cue_report.specs.Telling.{Tally, WritesPieces}
-use Rattle.cue_report.specs.Inner.Telling.{WritesPiecesPrefix}
+use Rattle.cue_report.specs.Telling.{Tally}
+use Rattle.cue_report.specs.Inner.Telling.{WritesPieces, WritesPiecesPrefix}
 use Rattle.cue_report.specs.Inner.Trail.{shown_steps}
 use Rattle.cue_report.specs.declared.conflict.Conflict.{Conflict}
 use Rattle.cue_report.proofs.Descent.{Told}

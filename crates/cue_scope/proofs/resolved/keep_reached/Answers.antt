@@ -10,7 +10,7 @@ use Rattle.cue_scope.proofs.resolved.keep_reached.Goals.{then-index+in_ok-push, 
 pub index-requires : goal.index-requires
 index-requires c =
     let node = c.requires.ordered.nodes (get_or c.args.order.now c.loop-number.number-index 0) (in_at c.args.order.now c.loop-number.number-index c.loop-number-test.true) in
-    let long = c.in_ok-reach_all.ensures.length in let same = length_graph_of c.args.graph.now in
+    let long = c.in_ok-reached.ensures.length in let same = length_graph_of c.args.graph.now in
     omega arith
 
 pub loop-number-init : goal.loop-number-init
@@ -19,11 +19,11 @@ loop-number-init c = rw c.new-kept.ensures.items (kept_none (graph_of c.args.gra
 pub loop-number-preserved : goal.loop-number-preserved
 loop-number-preserved c =
     let n = get_or c.args.order.now c.loop-number.number-index 0 in
-    let inside : get_or c.args.order.now c.loop-number.number-index 0 < length c.in_ok-reach_all.reached.items =
+    let inside : get_or c.args.order.now c.loop-number.number-index 0 < length c.in_ok-reached.reached.items =
     let node = c.requires.ordered.nodes (get_or c.args.order.now c.loop-number.number-index 0) (in_at c.args.order.now c.loop-number.number-index c.loop-number-test.true) in
-    let long = c.in_ok-reach_all.ensures.length in let same = length_graph_of c.args.graph.now in omega arith in
-    let read = get_or_read c.in_ok-reach_all.reached.items n c.index.result.now inside c.index.ensures false in
-    let tells = c.in_ok-reach_all.ensures.reached n in
+    let long = c.in_ok-reached.ensures.length in let same = length_graph_of c.args.graph.now in omega arith in
+    let read = get_or_read c.in_ok-reached.reached.items n c.index.result.now inside c.index.ensures false in
+    let tells = c.in_ok-reached.ensures.reached n in
     elim c.if-index.branch [
       | then-index+in_ok-push w ↦ rw (w.kept-is, w.in_ok-push.ensures.pushed, add-one) (kept_more (graph_of c.args.graph.now) c.args.from.now c.args.order.now c.loop-number.number-index c.loop-number.kept.items
           c.requires.ordered c.loop-number-test.true (tells.0 (sym read ∙ w.if-index.true)) c.loop-number.invariant)

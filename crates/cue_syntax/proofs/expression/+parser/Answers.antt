@@ -6,7 +6,8 @@ use Rattle.cue_syntax.specs.declared.tree.Expr.{Expr}
 use Rattle.cue_syntax.specs.declared.tree.Rest.TheVariants as rests
 use Rattle.cue_syntax.specs.declared.tree.Term.{Term}
 use Rattle.cue_syntax.specs.Syntax.{no_elements, branch, parenthesis, struct, close, list, conjunction, disjunction, elements_of_list, branches_of_list, entries, expression, rest_of_tree}
-use Rattle.cue_syntax.specs.Grammar.{IsExpression, IsTermOf, IsEntry, AreElementTokens, AreEntries, AreNested}
+use Rattle.cue_syntax.specs.Grammar.{IsExpression, AreEntries, AreNested}
+use Rattle.cue_syntax.specs.Inner.Grammar.{IsTermOf, IsEntry, AreElementTokens}
 use Rattle.cue_syntax.proofs.ReadingsJoin.{reads_one_at, reads_none}
 use Rattle.cue_syntax.proofs.RowsGrow.{nested_pushed}
 use Rattle.cue_syntax.proofs.Views.{view-term, view-Parenthesis, view-Struct, view-Close, view-Conjunction, view-Disjunction, view-Field, view-Definition, view-List, view-Ends}
@@ -206,8 +207,8 @@ list-returns-in-Some-clause-spelled t c =
           inr (ap elements_of_list (nil_from_length items.items zero))
     ] in
     subst (λ e. IsExpression c.args.room c.args.cursor.rest.now e c.in_ok-rest.rest.rest.now)
-    (sym (view-List items c.in_ok-list_rest.further c.trailing_comma-comma.result.0))
-    (open_list_is (rest_of_tree c.in_ok-list_rest.further) c.in_ok-inside.ensures.left c.in_ok-open.ensures.reads c.in_ok-row.ensures.spelled which c.in-Some.ensures.reads c.in_ok-list_rest.ensures.spelled c.trailing_comma-comma.ensures.reads c.in_ok-rest.ensures.reads)
+    (sym (view-List items c.in_ok-further.further c.trailing_comma-comma.result.0))
+    (open_list_is (rest_of_tree c.in_ok-further.further) c.in_ok-inside.ensures.left c.in_ok-open.ensures.reads c.in_ok-row.ensures.spelled which c.in-Some.ensures.reads c.in_ok-further.ensures.spelled c.trailing_comma-comma.ensures.reads c.in_ok-rest.ensures.reads)
 
 pub list-returns-clause-spelled : goal.list-returns-clause-spelled
 list-returns-clause-spelled t c =
@@ -381,11 +382,11 @@ list-returns-in_err-rest-clause-refused t c =
           inr (nil_from_length items.items zero)
     ] in
     passed_on c.from_residual-in_err-rest.result c.from_residual-in_err-rest.ensures.1
-    (halted_behind (moves_then (moves_then (list_opens c.in_ok-inside.inside c.in_ok-inside.ensures.left c.in_ok-open.ensures.reads c.in_ok-row.ensures.moves) (moves_then (open_ellipsis c.in_ok-row.row.comma items.items (omega (arith, c.in_ok-inside.ensures.left)) which c.in-Some.ensures.reads) (moves_more (omega (arith, c.in_ok-inside.ensures.left)) c.in_ok-list_rest.ensures.moves))) (ellipsis_comma c.trailing_comma-comma.result.0 (omega (arith, c.in_ok-inside.ensures.left)) c.trailing_comma-comma.ensures.reads)) (c.trailing_comma-comma.ensures.onward.end ∙ c.in_ok-list_rest.ensures.onward.end ∙ c.in-Some.ensures.further.end ∙ c.in_ok-row.ensures.onward.end ∙ c.in_ok-open.ensures.further.end)
+    (halted_behind (moves_then (moves_then (list_opens c.in_ok-inside.inside c.in_ok-inside.ensures.left c.in_ok-open.ensures.reads c.in_ok-row.ensures.moves) (moves_then (open_ellipsis c.in_ok-row.row.comma items.items (omega (arith, c.in_ok-inside.ensures.left)) which c.in-Some.ensures.reads) (moves_more (omega (arith, c.in_ok-inside.ensures.left)) c.in_ok-further.ensures.moves))) (ellipsis_comma c.trailing_comma-comma.result.0 (omega (arith, c.in_ok-inside.ensures.left)) c.trailing_comma-comma.ensures.reads)) (c.trailing_comma-comma.ensures.onward.end ∙ c.in_ok-further.ensures.onward.end ∙ c.in-Some.ensures.further.end ∙ c.in_ok-row.ensures.onward.end ∙ c.in_ok-open.ensures.further.end)
     c.in_err-rest.ensures.refused (ellipsis_halts c.trailing_comma-comma.result.0 c.trailing_comma-comma.ensures.reads c.trailing_comma-comma.ensures.missing c.in_err-rest.ensures.missing))
 
-pub list-returns-in_err-list_rest-clause-refused : goal.list-returns-in_err-list_rest-clause-refused
-list-returns-in_err-list_rest-clause-refused t c =
+pub list-returns-in_err-further-clause-refused : goal.list-returns-in_err-further-clause-refused
+list-returns-in_err-further-clause-refused t c =
     let items = c.in_ok-row.row.items in
     let which : (c.in_ok-row.row.comma ≡ true) ⊎ (items.items ≡ []) =
     elim c.then-row.branch [
@@ -394,10 +395,10 @@ list-returns-in_err-list_rest-clause-refused t c =
           let zero : length items.items ≡ 0 = grind (arith, items.ok.0) in
           inr (nil_from_length items.items zero)
     ] in
-    passed_on c.from_residual-in_err-list_rest.result c.from_residual-in_err-list_rest.ensures.1
+    passed_on c.from_residual-in_err-further.result c.from_residual-in_err-further.ensures.1
     (refused_behind (moves_then (list_opens c.in_ok-inside.inside c.in_ok-inside.ensures.left c.in_ok-open.ensures.reads c.in_ok-row.ensures.moves) (open_ellipsis c.in_ok-row.row.comma items.items (omega (arith, c.in_ok-inside.ensures.left)) which c.in-Some.ensures.reads))
     (λ begins. inr (follows_behind (list_opens c.in_ok-inside.inside c.in_ok-inside.ensures.left c.in_ok-open.ensures.reads c.in_ok-row.ensures.moves).inside (follows_mark points.Ellipsis c.in-Some.ensures.reads)))
-    (refused_end (c.in-Some.ensures.further.end ∙ c.in_ok-row.ensures.onward.end ∙ c.in_ok-open.ensures.further.end) (refused_inside c.in_ok-inside.inside c.in_ok-inside.ensures.left c.in_err-list_rest.ensures.refused)))
+    (refused_end (c.in-Some.ensures.further.end ∙ c.in_ok-row.ensures.onward.end ∙ c.in_ok-open.ensures.further.end) (refused_inside c.in_ok-inside.inside c.in_ok-inside.ensures.left c.in_err-further.ensures.refused)))
 
 pub list-returns-in-Some-clause-moves : goal.list-returns-in-Some-clause-moves
 list-returns-in-Some-clause-moves t c =
@@ -409,7 +410,7 @@ list-returns-in-Some-clause-moves t c =
           let zero : length items.items ≡ 0 = grind (arith, items.ok.0) in
           inr (nil_from_length items.items zero)
     ] in
-    moves_then (moves_then (moves_then (list_opens c.in_ok-inside.inside c.in_ok-inside.ensures.left c.in_ok-open.ensures.reads c.in_ok-row.ensures.moves) (moves_then (open_ellipsis c.in_ok-row.row.comma items.items (omega (arith, c.in_ok-inside.ensures.left)) which c.in-Some.ensures.reads) (moves_more (omega (arith, c.in_ok-inside.ensures.left)) c.in_ok-list_rest.ensures.moves))) (ellipsis_comma c.trailing_comma-comma.result.0 (omega (arith, c.in_ok-inside.ensures.left)) c.trailing_comma-comma.ensures.reads)) (ellipsis_closes c.trailing_comma-comma.result.0 c.in_ok-rest.ensures.reads)
+    moves_then (moves_then (moves_then (list_opens c.in_ok-inside.inside c.in_ok-inside.ensures.left c.in_ok-open.ensures.reads c.in_ok-row.ensures.moves) (moves_then (open_ellipsis c.in_ok-row.row.comma items.items (omega (arith, c.in_ok-inside.ensures.left)) which c.in-Some.ensures.reads) (moves_more (omega (arith, c.in_ok-inside.ensures.left)) c.in_ok-further.ensures.moves))) (ellipsis_comma c.trailing_comma-comma.result.0 (omega (arith, c.in_ok-inside.ensures.left)) c.trailing_comma-comma.ensures.reads)) (ellipsis_closes c.trailing_comma-comma.result.0 c.in_ok-rest.ensures.reads)
 
 pub list-returns-in_err-rest-2-clause-refused : goal.list-returns-in_err-rest-2-clause-refused
 list-returns-in_err-rest-2-clause-refused t c =

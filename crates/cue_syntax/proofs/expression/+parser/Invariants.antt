@@ -1,6 +1,7 @@
 -- The room falls at each level that opens. Within one level the functions call each other in a fixed order.
 use Rattle.std.proofs.Common.{◌≡◌, ◌⊎◌, ℕ, ◌+◌, ◌*◌, ◌≤◌, false, [], ◌∷◌, length}
-use Rattle.cue_syntax.specs.Grammar.{AreElementTokens, AreEntries, AreNested}
+use Rattle.cue_syntax.specs.Grammar.{AreEntries, AreNested}
+use Rattle.cue_syntax.specs.Inner.Grammar.{AreElementTokens}
 use Rattle.cue_syntax.specs.Syntax.{elements_of_list, entries}
 use Rattle.cue_syntax.specs.Begun.{MayBeginEntry}
 use Rattle.cue_syntax.specs.Recogniser as goals

@@ -17,7 +17,7 @@ pair-requires c =
     let same = ap nodes_kept c.tables-tables.ensures.definitions in
     let d = definition_of c.args.definition.now in
     let can = subst (λ ds. IsDefinable ds d c.args.self.now) (sym same) c.requires.definable in
-    let kept = subst (λ ds. IsKept (uses ds d.value) c.args.self.now c.close_body.new.self) (sym same) c.in_ok-close_body.ensures.kept in
+    let kept = subst (λ ds. IsKept (uses ds d.value) c.args.self.now c.close_body.new.self) (sym same) c.in_ok-closed.ensures.kept in
     let sure : IsTrue (is_scalar (body_of (nodes_kept c.args.definitions.now) d)) = sym c.requires.is_scalar ∙ c.if-is_scalar.true in
     pairable_of c.args.self.now c.close_body.new.self c.tables-tables.result d kept c.tables-tables.ensures.pairs can
     (subst (λ ds. IsTrue (is_scalar (body_of ds d))) (sym same) sure)
@@ -26,7 +26,7 @@ pub returns-clause-defined : goal.returns-clause-defined
 returns-clause-defined c =
     let ds = nodes_kept c.args.definitions.now in
     let d = definition_of c.args.definition.now in
-    let closed = c.in_ok-close_body.ensures.closed in record {
+    let closed = c.in_ok-closed.ensures.closed in record {
       pair = λ sure. elim c.if-is_scalar.branch [
         | then-is_scalar+in_ok-pair w ↦
             let same = ap nodes_kept w.tables-tables.ensures.definitions in

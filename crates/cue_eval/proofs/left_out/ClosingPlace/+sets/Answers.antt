@@ -87,11 +87,11 @@ stretches-loop-first-init t c =
     let last = c.in-Some.last in
     let sets = c.in_ok-element.field-0 in
     let popped = c.in-Some.ensures in
-    let heap = c.in_ok-stretch_starts.ensures.heap in
-    let few = popped_few last (heap_items c.in_ok-stretch_starts.bounds) (heap_items c.pop.new.self) c.in_ok-stretch_starts.ensures.few popped.permutation in
+    let heap = c.in_ok-bounds.ensures.heap in
+    let few = popped_few last (heap_items c.in_ok-bounds.bounds) (heap_items c.pop.new.self) c.in_ok-bounds.ensures.few popped.permutation in
     let one : c.push.new.self.items ≡ (last, sets) ∷ [] = rw c.in_ok-push.ensures.items (ap (λ xs. xs ++ (last, sets) ∷ []) c.new-stretches.ensures.items) in
     record {
-      underway = underway c.args.self.now c.push.new.self.items sets (heap_items c.in_ok-stretch_starts.bounds) (heap_items c.pop.new.self) last one c.in_ok-element.ensures.added c.in_ok-stretch_starts.ensures.alike c.in_ok-stretch_starts.ensures.first popped.permutation (popped.below_top heap);
+      underway = underway c.args.self.now c.push.new.self.items sets (heap_items c.in_ok-bounds.bounds) (heap_items c.pop.new.self) last one c.in_ok-element.ensures.added c.in_ok-bounds.ensures.alike c.in_ok-bounds.ensures.first popped.permutation (popped.below_top heap);
       heap = (popped.heap_order heap).0;
       left = few.1;
       few = pushed_all (λ one. one.0 ≤ 2 ^ 32) c.new-stretches.result.items c.push.new.self.items (last, sets) c.in_ok-push.ensures.items (rw c.new-stretches.ensures.items (All-nil (λ one. one.0 ≤ 2 ^ 32))) few.0;

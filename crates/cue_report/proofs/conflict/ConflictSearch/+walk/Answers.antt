@@ -7,8 +7,7 @@ use Rattle.cue_table.specs.declared.step_ref.StepRef.TheVariants.{Label, Index}
 use Rattle.cue_table.specs.Tree.{none, row_of, below}
 use Rattle.cue_table.specs.Size.{children_size}
 use Rattle.cue_report.specs.Inner.Search.{conflict_under, conflicts_under, has_no_value, conflict_here, conflicts_in, conflicts_below, conflicts_onward, each_index, least_at}
-use Rattle.cue_report.specs.Telling.{WritesPieces}
-use Rattle.cue_report.specs.Inner.Telling.{WritesPiecesPrefix}
+use Rattle.cue_report.specs.Inner.Telling.{WritesPieces, WritesPiecesPrefix}
 use Rattle.cue_report.proofs.Runs.{run_is}
 use Rattle.cue_report.proofs.Walk.{popped, pushed_on, walked_span, field_is, span_smaller, walked, begun_here, begun_span, begun_rest, walked_element, begun_element, each_begun, all_elements, demand_is, unasked_is, is_ended}
 use Rattle.cue_report.proofs.Silent.{silent, any_elements}

@@ -4,7 +4,7 @@ use Rattle.cue_table.specs.StepsOfCode.{step_at}
 use Rattle.cue_table.specs.Size.{tree_size}
 use Rattle.cue_table.specs.Tree.{row_of, below}
 use Rattle.cue_report.specs.Inner.Search.{conflicts_under, each_index, conflicts_in}
-use Rattle.cue_report.specs.Telling.{WritesPieces}
+use Rattle.cue_report.specs.Inner.Telling.{WritesPieces}
 use Rattle.cue_report.proofs.Walk.{IsWalking}
 use Rattle.cue_report.proofs.conflict.ConflictSearch.+walk.Given as goal
 

@@ -7,8 +7,7 @@ use Rattle.cue_table.specs.declared.step_ref.StepRef.TheVariants.{Label, Index}
 use Rattle.cue_table.specs.Tree.{none, row_of}
 use Rattle.cue_report.specs.Inner.GapSearch.{WritesGapsWhere, WritesGapsPrefixWhere, IsGapHere, IsGapIn, IsGapBelow, gaps_above, free_before, free_elements}
 use Rattle.cue_report.specs.Inner.Search.{least_at}
-use Rattle.cue_report.specs.Telling.{WritesPieces}
-use Rattle.cue_report.specs.Inner.Telling.{WritesPiecesPrefix}
+use Rattle.cue_report.specs.Inner.Telling.{WritesPieces, WritesPiecesPrefix}
 use Rattle.cue_report.proofs.GapFronts.{fronts_none, here_begun}
 use Rattle.cue_report.proofs.GapRests.{none_among, element_added, same_elements, all_among, nothing_onward}
 use Rattle.cue_report.proofs.GapRuns.{field_added, field_unasked, run_added}

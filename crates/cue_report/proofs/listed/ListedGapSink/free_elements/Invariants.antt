@@ -1,6 +1,6 @@
 use Rattle.std.proofs.Common.{◌+◌, ◌-◌, ◌≤◌, Some, length, [], ◌∷◌}
 use Rattle.cue_report.specs.Inner.GapSearch.{gaps_above, free_elements}
-use Rattle.cue_report.specs.Telling.{WritesPieces}
+use Rattle.cue_report.specs.Inner.Telling.{WritesPieces}
 use Rattle.cue_report.specs.Inner.Trail.{shown_steps}
 use Rattle.cue_report.proofs.listed.ListedGapSink.free_elements.Given as goal
 

@@ -2,8 +2,8 @@ use Rattle.std.proofs.Common.{◌≡◌, ◌∙◌, ◌++◌, ◌-◌, ◌≤◌
 use Rattle.cue_lattice.specs.Path.{index, Path}
 use Rattle.cue_report.specs.Inner.GapSearch.{gaps_above, free_elements}
 use Rattle.cue_report.specs.Lines.{gap_line}
-use Rattle.cue_report.specs.Telling.{Tally, WritesPieces}
-use Rattle.cue_report.specs.Inner.Telling.{WritesPiecesPrefix}
+use Rattle.cue_report.specs.Telling.{Tally}
+use Rattle.cue_report.specs.Inner.Telling.{WritesPieces, WritesPiecesPrefix}
 use Rattle.cue_report.specs.Inner.Trail.{shown_steps}
 use Rattle.cue_report.proofs.GapTelling.{one_more_free, one_begun_free, free_begun}
 use Rattle.cue_report.proofs.Telling.{grows_none, grows_same, grows_from, starts_none, starts_whole}

@@ -2,7 +2,7 @@ use Rattle.std.proofs.Common.{◌≡◌, ◌+◌, ◌-◌, ◌≤◌, string_byt
 use Rattle.std.specs.List.{flat_map}
 use Rattle.cue_report.specs.Inner.GapSearch.{gaps_above, free_elements}
 use Rattle.cue_report.specs.Lines.{gap_line}
-use Rattle.cue_report.specs.Telling.{WritesPieces}
+use Rattle.cue_report.specs.Inner.Telling.{WritesPieces}
 use Rattle.cue_report.specs.Inner.Trail.{dotted_behind, shown_steps}
 use Rattle.cue_report.proofs.written.WrittenGapSink.free_elements.Given as goal
 

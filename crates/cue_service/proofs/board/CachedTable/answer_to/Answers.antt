@@ -13,10 +13,10 @@ returns-in-Some-clause-told c =
 pub invariant_of-self : goal.invariant_of-self
 invariant_of-self c =
     c.keep.ensures c.self.inside.table c.self.invariant
-    (c.in_ok-answer_to.field-0, c.in_ok-answer_to.ensures.tells, c.in_ok-find_answer.ensures.bytes, c.in_ok-find_answer.ensures.status)
+    (c.in_ok-answer_to.field-0, c.in_ok-answer_to.ensures.tells, c.in_ok-told.ensures.bytes, c.in_ok-told.ensures.status)
 
 pub returns-clause-told : goal.returns-clause-told
 returns-clause-told c =
     subst (λ (t : KeptAnswer). IsKeptAnswer c.args.question c.args.self.now t) (sym c.in_ok-shared.ensures)
-    (subst (λ (t : Table). IsKeptAnswer c.args.question t c.in_ok-find_answer.told) c.self.view_is
-    (c.in_ok-answer_to.field-0, c.in_ok-answer_to.ensures.tells, c.in_ok-find_answer.ensures.bytes, c.in_ok-find_answer.ensures.status))
+    (subst (λ (t : Table). IsKeptAnswer c.args.question t c.in_ok-told.told) c.self.view_is
+    (c.in_ok-answer_to.field-0, c.in_ok-answer_to.ensures.tells, c.in_ok-told.ensures.bytes, c.in_ok-told.ensures.status))
