@@ -17,7 +17,7 @@ SAID = {
     "Syntax": ("no fragment goes on like this", "a field is `label: value`, one on a line or with commas between"),
     "Nesting": ("a 65th open bracket or chained label", "move the inner struct into a definition `#Name: {..}` at the top"),
     "LeftOut": ("a form of CUE that the store leaves out", "write the values themselves"),
-    "UnknownName": ("a name that nothing declares", 'a text stands in quotes, as "localhost"; a definition is declared in '
+    "UnknownName": ("a name that nothing declares", 'a text is written in quotes, as "localhost"; a definition is declared in '
                     "the same file, as `#Name: ..`"),
     "FieldReference": ("a name of a field, which is no value here", "repeat the value, or put it into a definition "
                        "`#Name: ..` at the top and use `#Name` in both places"),
@@ -41,7 +41,7 @@ FORMS = {
     "MarkedDefinition": ("a definition with ? or !", "a definition has no mark: `#Name: ..`"),
     "Embedding": ("a value in the place of a field", "give it a label; to add a definition to a struct write "
                   "`label: #Name & {..}`"),
-    "DynamicLabel": ("a label that is computed, or a pattern of labels", "write a field for each label"),
+    "DynamicLabel": ("a label that is computed, or a pattern of labels", "write a field for each label; a policy binds every label: cuelayers put --policy"),
     "TypedEllipsis": ("a type for the other fields of a struct", "`...` alone leaves the struct open; write the fields"),
     "Bound": ("a bound of something other than an integer, or for != a string", "`>=1 & <=9`, `!=\"x\"`"),
     "Call": ("a call", "the one function is `close({..})`; write the value itself"),
@@ -61,12 +61,12 @@ UNKNOWN = {
        for name in ("int128", "uint64", "uint128", "rune")},
     "byte": ("the name byte", "uint8"),
 }
-CHOICE = "write the values that may stand, as `\"a\" | \"b\"`, `>=1 & <=9` or `!=\"x\"`"
+CHOICE = "write the allowed values, as `\"a\" | \"b\"`, `>=1 & <=9` or `!=\"x\"`"
 OPERATORS = {
     "=~": ("a pattern that a string must match", CHOICE), "!~": ("a pattern that a string must not match", CHOICE),
     "==": ("a comparison", CHOICE), "&&": ("a condition", CHOICE), "||": ("a condition", CHOICE),
     "=": ("an alias", "repeat the value, or put it into a definition `#Name: ..`"),
-    "@": ("an attribute", "leave it out; what it tells a reader stands in a comment, `// ..`"),
+    "@": ("an attribute", "leave it out, or write it as a comment, `// ..`"),
     "`": ("an identifier in backquotes", 'a label in double quotes, as "my-label"'),
     **{sign: ("arithmetic", "write what it comes to") for sign in "+-*/%"},
 }
@@ -113,9 +113,9 @@ def pattern_of(found):
     if here.kind == "number" and re.search(r"[.eE]|[KMGTP]i?$", here.text) and not here.text.startswith(("0x", "0X")):
         return NO_NUMBER if not re.search(r"[KMGTP]i?$", here.text) else ("a number with a unit", "write it out")
     if here.text == "=" and found.inside == "[" and is_pattern(found):
-        return ("a pattern of labels with an alias, as [Name=string]: ..", "write a field for each label; `{...}` lets all labels stand")
+        return ("a pattern of labels with an alias, as [Name=string]: ..", "write a field for each label; `{...}` allows all labels. A policy binds every label: cuelayers put --policy")
     if here.text == ":" and before.text == "]":
-        return ("a pattern of labels, as [string]: ..", "write a field for each label; `{...}` lets all labels stand")
+        return ("a pattern of labels, as [string]: ..", "write a field for each label; `{...}` allows all labels. A policy binds every label: cuelayers put --policy")
     if here.text == "." and before.kind in ("name", "string") or here.kind == "number" and here.text[:1] == ".":
         if found.token(1).kind == "name" and found.token(2).text == "(":
             return ("a call of a package's function", "write what it comes to")
