@@ -150,12 +150,18 @@ fn known_tag(wanted: Wanted<'_>) -> Option<&[u8]> {
     }
 }
 
-/// The request that asks so.
-fn ask(alloc: Global, client: &mut Client, wanted: Wanted<'_>) -> Result<Vec<u8>, AskError> {
+/// The request that asks so. It names the source by its address: a site answers for no other host.
+fn ask(
+    alloc: Global,
+    client: &mut Client,
+    source: SocketAddr,
+    wanted: Wanted<'_>,
+) -> Result<Vec<u8>, AskError> {
     let mut question = Vec::new(alloc);
+    let address = format!(in alloc; "{source}")?;
     let host = Header {
         name: b"host",
-        value: b"site",
+        value: address.as_bytes(),
     };
     let target = target(alloc, wanted)?;
     match known_tag(wanted) {
@@ -193,7 +199,7 @@ impl SourceQuestion {
         until: Instant,
     ) -> Result<SourceQuestion, AskError> {
         let mut client = Client::new(Limits::default());
-        let question = ask(alloc, &mut client, wanted)?;
+        let question = ask(alloc, &mut client, source, wanted)?;
         let mut stream = TcpStream::connect(net, source)?;
         poll.registry().register(
             &mut stream,
