@@ -1,5 +1,5 @@
 -- What is found in a file of a journal, sound or not.
-use Rattle.std.specs.Prelude.{◌≡◌, ℕ, List, ◌++◌, Option, Some, None}
+use Rattle.std.specs.Prelude.{◌≡◌, ℕ, List, ◌++◌, Some}
 use Rattle.std.specs.List.{Contains}
 use Rattle.cue_journal.specs.Blocks.{recovered_pieces}
 use Rattle.cue_journal.specs.Frames.{next_batch}

@@ -1,4 +1,4 @@
-use Rattle.std.proofs.Common.{IsTrue, sym, subst, arith}
+use Rattle.std.proofs.Common.{IsTrue, subst, arith}
 use Rattle.cue_journal.proofs.Starts.{started_so}
 use Rattle.cue_journal.proofs.start.start_pair.Goals as goal
 
