@@ -1,7 +1,9 @@
 pub mod Batches
 pub mod Blocks
 pub mod Damage
+pub mod Found
 pub mod Frames
 pub mod Journals
 pub mod Pairs
 pub mod Settled
+pub mod Starts
