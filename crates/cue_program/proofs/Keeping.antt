@@ -11,7 +11,7 @@ use Rattle.cue_replica.specs.declared.Refusal.{Refusal}
 use Rattle.cue_replica.proofs.Texts.{lexed_short}
 use Rattle.cue_program.specs.Files.{AreAll}
 use Rattle.cue_program.specs.Inputs.{IsByteFault, IsEnoughOf, IsFilePiece, IsPieceRefusal, IsTextInput, IsTextInputRefusal}
-use Rattle.cue_program.proofs.Files.{Accepts}
+use Rattle.cue_program.proofs.SubmittedInputs.{Accepts}
 use Rattle.cue_program.specs.Stops.{IsRefusedAs}
 use Rattle.cue_program.specs.declared.stop.RunError.{RunError}
 use Rattle.cue_program.specs.inner.Reading.{IsAllRead}

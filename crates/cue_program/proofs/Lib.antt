@@ -2,7 +2,7 @@ pub mod Batches
 pub mod Calls
 pub mod Devices
 pub mod Effects
-pub mod Files
+pub mod SubmittedInputs
 pub mod Keeping
 pub mod Lines
 pub mod Pieces

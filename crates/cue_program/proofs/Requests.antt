@@ -16,7 +16,7 @@ use Rattle.cue_program.specs.Stops.{IsLongStop, IsMemoryStop, IsUnreadable, read
 use Rattle.cue_program.specs.declared.stop.RunError.{RunError}
 use Rattle.cue_program.specs.inner.Sending.{AreTextRequests, IsFileRequest, IsFileUnsent, IsNoText, IsPartUnsent}
 use Rattle.cue_program.specs.inner.Texts.{AreFirstParts}
-use Rattle.cue_program.proofs.Files.{all_texts, files_first_refused, files_unread}
+use Rattle.cue_program.proofs.SubmittedInputs.{all_texts, files_first_refused, files_unread}
 use Rattle.cue_program.proofs.Streams.{parts_refused, refused_of_known}
 use Rattle.cue_program.proofs.Texts.{next_part, part_refused, so_far_more}
 

@@ -13,7 +13,7 @@ use Rattle.cue_program.specs.Files.{AreAll, Holdings, known_at, texts_of_files}
 use Rattle.cue_program.specs.Inputs.{AreStreamPieces, IsUnified, IsFirstRefused, IsInputRefused, IsPieceRefusal, IsStateInputRefusal, files, inputs_of, stream}
 use Rattle.cue_program.specs.Stops.{IsRefusedAs}
 use Rattle.cue_program.specs.inner.Texts.{AreTexts, IsPartRefused, IsTextRefused}
-use Rattle.cue_program.proofs.Files.{all_texts, length_texts, map_texts}
+use Rattle.cue_program.proofs.SubmittedInputs.{all_texts, length_texts, map_texts}
 
 -- one state
 pub of_one_state :

@@ -2,7 +2,7 @@ use Rattle.std.proofs.Common.{rules, ◌≡◌, ◌+◌, ℕ, List, Option, map,
 use Rattle.cue_layers_program.specs.Joined.{all_puts, ArePutsOf, IsFileRefusal, IsJoined, IsJoinStop}
 use Rattle.cue_layers_program.specs.Stops.{stop_of}
 use Rattle.cue_layers_program.specs.declared.stop.LayersStop.TheVariants as ends
-use Rattle.cue_program.proofs.Files.{length_known, split_known, take_known}
+use Rattle.cue_program.proofs.SubmittedInputs.{length_known, split_known, take_known}
 use Rattle.cue_program.specs.Files.{known_at, texts_of_files}
 use Rattle.cue_layers_program.proofs.JoinedFiles.{file_refused, file_unread, joined_more, joined_none}
 use Rattle.cue_layers_program.proofs.Results.{err_as}

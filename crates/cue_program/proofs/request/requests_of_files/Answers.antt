@@ -4,7 +4,7 @@ use Rattle.cue_wire.proofs.Connections.{err_on}
 use Rattle.cue_program.specs.Files.{known_at, texts_of_files}
 use Rattle.cue_program.specs.Inputs.{files}
 use Rattle.cue_program.specs.Requests.{AreRequests, CanBeSent, IsRequestFault, IsUnsentOn}
-use Rattle.cue_program.proofs.Files.{take_known, split_known}
+use Rattle.cue_program.proofs.SubmittedInputs.{take_known, split_known}
 use Rattle.cue_program.proofs.Requests.{files_sent_none, files_sent_more, files_unsent, files_sent_unread}
 use Rattle.cue_program.proofs.Keeping.{fine_is_all, refused_is_all, long_fault, long_is_unsent}
 use Rattle.cue_program.proofs.request.requests_of_files.Goals as goal

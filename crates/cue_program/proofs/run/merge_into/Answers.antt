@@ -1,6 +1,6 @@
 use Rattle.std.proofs.Common.{inl, inr, refl}
 use Rattle.cue_wire.proofs.Connections.{err_on}
-use Rattle.cue_program.proofs.Files.{ok_more, err_both}
+use Rattle.cue_program.proofs.SubmittedInputs.{ok_more, err_both}
 use Rattle.cue_program.proofs.run.merge_into.Goals as goal
 
 pub returns-in_err-site-clause-stop : goal.returns-in_err-site-clause-stop

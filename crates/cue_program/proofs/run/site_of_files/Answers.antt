@@ -4,7 +4,7 @@ use Rattle.cue_replica.specs.Accepted.{IsAcceptable}
 use Rattle.cue_wire.proofs.Connections.{err_on}
 use Rattle.cue_program.specs.Files.{known_at, texts_of_files}
 use Rattle.cue_program.specs.Inputs.{IsInputRefused, IsInputUnread, files}
-use Rattle.cue_program.proofs.Files.{HasTakenFiles, files_fine, files_none, files_more, files_refused, files_unread, take_known, split_known, length_known}
+use Rattle.cue_program.proofs.SubmittedInputs.{HasTakenFiles, files_fine, files_none, files_more, files_refused, files_unread, take_known, split_known, length_known}
 use Rattle.cue_program.proofs.Pieces.{held_in_memory}
 use Rattle.cue_program.proofs.run.site_of_files.Goals as goal
 

@@ -1,7 +1,7 @@
 use Rattle.std.proofs.Common.{◌≡◌, map, take, vec_len}
 use Rattle.cue_program.specs.Files.{known_at, texts_of_files}
 use Rattle.cue_program.specs.Stops.{piece_size}
-use Rattle.cue_program.proofs.Files.{HasTakenFiles}
+use Rattle.cue_program.proofs.SubmittedInputs.{HasTakenFiles}
 use Rattle.cue_program.proofs.run.site_of_files.Given as goal
 
 abbrev pub invariant-loop-name : goal.invariant-loop-name

@@ -8,7 +8,7 @@ use Rattle.cue_program.specs.Inputs.{IsFilePiece, IsFileRead, IsPieceRefusal, Is
 use Rattle.cue_program.specs.Stops.{IsRefusedAs}
 use Rattle.cue_program.specs.declared.input_reader.Enough.{Enough}
 use Rattle.cue_program.specs.declared.input_reader.Input.{Input}
-use Rattle.cue_program.proofs.Files.{both_ok}
+use Rattle.cue_program.proofs.SubmittedInputs.{both_ok}
 use Rattle.cue_program.proofs.Keeping.{text_accepted, text_refused}
 use Rattle.cue_program.proofs.site.take_file.Goals as goal
 

@@ -1,4 +1,4 @@
-use Rattle.cue_program.proofs.Files.{ok_more}
+use Rattle.cue_program.proofs.SubmittedInputs.{ok_more}
 use Rattle.cue_program.proofs.Pieces.{state_more, text_more}
 use Rattle.cue_program.proofs.input_reader.InputInputReader.go_on.Goals as goal
 

@@ -1,4 +1,4 @@
--- The inputs that were handed to a site so far.
+-- The inputs that were submitted to a site so far.
 use Rattle.std.proofs.Common.{◌≡◌, ℕ, suc, ◌+◌, ◌-◌, ◌^◌, ◌<◌, ◌≤◌, min, List, [], ◌∷◌, ◌++◌, Result, Ok, Err, OnOk, OnErr, IfErr, Option, map, take, drop, length, arith, Bor, refl, sym, ap, ◌∙◌, subst}
 use Rattle.std.specs.List.{AllByRecursion}
 use Rattle.std.proofs.lemmas.List.{append_assoc, length-take, map-append, map_push, take_more, take-append-drop, drop_more}
