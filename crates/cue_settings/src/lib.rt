@@ -8,4 +8,4 @@ mod words;
 
 pub use rules::{grows, may_listen};
 pub use stop::SettingsError;
-pub use words::{Settings, command, words_of};
+pub use words::{Settings, Task, command, task_of, words_of};

@@ -47,13 +47,13 @@ fn value<'a>(alloc: Global, name: &'a str, shown: &'a str, help: &'a str) -> Arg
 
 /// The words of `cuestored`, as `clap` is told of them.
 pub fn command<'a>(alloc: Global) -> Result<Command<'a>, AllocError> {
-    Command::new(alloc, "cuestored")
+    let command = Command::new(alloc, "cuestored")
         .version("0.1.0")
         .about("A site of the configuration store that stays up, over HTTP")
         .arg(
             value(alloc, "data", "DIR", "The folder of the journal")
                 .value_parser(ValueParser::NonEmptyString)
-                .required(true),
+                .required_unless_present_any(&["check", "salvage"])?,
         )?
         .arg(value(alloc, "listen", "ADDRESS:PORT", "Where to listen").default_value(
             "127.0.0.1:8420",
@@ -107,6 +107,61 @@ pub fn command<'a>(alloc: Global) -> Result<Command<'a>, AllocError> {
             )
             .value_parser(value_parser!(u64).range(1..86_400))
             .default_value("60"),
+        )?;
+    with_care(alloc, command)
+}
+
+/// What the program is asked to do.
+#[derive(Clone, Copy)]
+pub enum Task<'a> {
+    Serve,
+    /// Reads the files of a folder, and says whether they are sound.
+    Check(&'a str),
+    /// Puts what can be read of the files of the first folder into the second, a new one.
+    Salvage(&'a str, &'a str),
+}
+
+/// What was asked for.
+pub fn task_of<'a>(matches: &ArgMatches<'a>) -> Task<'a> {
+    match (
+        matches.get_str("check"),
+        matches.get_str("salvage"),
+        matches.get_str("into"),
+    ) {
+        (Some(folder), _, _) => Task::Check(folder),
+        (None, Some(folder), Some(new)) => Task::Salvage(folder, new),
+        (None, _, _) => Task::Serve,
+    }
+}
+
+/// The options for damaged files.
+fn with_care<'a>(alloc: Global, command: Command<'a>) -> Result<Command<'a>, AllocError> {
+    command
+        .arg(
+            value(
+                alloc,
+                "check",
+                "DIR",
+                "Read the files of DIR, change nothing, and say whether they are sound",
+            )
+            .value_parser(ValueParser::NonEmptyString)
+            .exclusive(true),
+        )?
+        .arg(
+            value(
+                alloc,
+                "salvage",
+                "DIR",
+                "Put what can be read of damaged files of DIR into the folder of --into",
+            )
+            .value_parser(ValueParser::NonEmptyString)
+            .requires_arg("into")?
+            .conflicts_with("data")?,
+        )?
+        .arg(
+            value(alloc, "into", "OUT", "A folder that --salvage makes")
+                .value_parser(ValueParser::NonEmptyString)
+                .requires_arg("salvage")?,
         )
 }
 

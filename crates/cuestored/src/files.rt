@@ -14,7 +14,7 @@ use std::random::RandomSource;
 use std::{fs, io};
 
 /// The files that a site is kept in, of which the longer journal grows.
-type File = FileFrom<Unknown>;
+pub(crate) type File = FileFrom<Unknown>;
 
 /// The word in a file, without the line break behind it.
 pub fn token_in(rt: &HostRuntime, path: &str) -> Result<AccessToken> {
@@ -35,7 +35,7 @@ pub fn token_in(rt: &HostRuntime, path: &str) -> Result<AccessToken> {
 }
 
 /// What an operation on a file gave, or that it failed.
-fn on_file<T>(
+pub(crate) fn on_file<T>(
     alloc: Global,
     operation: &'static str,
     file: &str,
@@ -61,11 +61,18 @@ fn make_folder(rt: &HostRuntime, path: &str) -> Result<()> {
     if let Ok(true) = fs::exists(rt, path) {
         return Ok(());
     }
-    let alloc = rt.alloc();
     match fs::create_dir(rt, path) {
-        Err(error) if error.kind() == ErrorKind::AlreadyExists => return Ok(()),
-        made => on_file(alloc, "mkdir", path, made)?,
+        Err(error) if error.kind() == ErrorKind::AlreadyExists => Ok(()),
+        made => {
+            on_file(rt.alloc(), "mkdir", path, made)?;
+            sync_above(rt, path)
+        }
     }
+}
+
+/// Has the name of a folder reach the disk.
+pub(crate) fn sync_above(rt: &HostRuntime, path: &str) -> Result<()> {
+    let alloc = rt.alloc();
     let above = parent_folder(path);
     let folder = on_file(alloc, "open", above, fs::File::open(rt, above))?;
     on_file(alloc, "sync", above, folder.sync_all())
@@ -85,14 +92,14 @@ fn make_folders(rt: &HostRuntime, path: &str) -> Result<()> {
 
 /// What one file brings: where its journal goes on, and the entries.
 #[derive(Drop)]
-struct Recovered {
-    disk: File,
-    end: usize,
-    entries: Vec<Vec<u8>>,
+pub(crate) struct Recovered {
+    pub(crate) disk: File,
+    pub(crate) end: usize,
+    pub(crate) entries: Vec<Vec<u8>>,
 }
 
 /// What a file brings, if it can be read as it was left.
-fn recover_from(alloc: Global, path: &str, mut disk: File) -> Result<Recovered> {
+pub(crate) fn recover_from(alloc: Global, path: &str, mut disk: File) -> Result<Recovered> {
     if !disk.may_be_used() {
         return Err(SettingsError::Unusable(String::from_str(alloc, path)?).into());
     }
@@ -112,7 +119,7 @@ fn board_of(alloc: Global, first: &[Vec<u8>], second: &[Vec<u8>]) -> Result<Repl
 }
 
 /// Both files of a journal.
-fn open_files(rt: &HostRuntime, path: &str) -> Result<Files<File>> {
+pub(crate) fn open_files(rt: &HostRuntime, path: &str) -> Result<Files<File>> {
     let alloc = rt.alloc();
     match open(rt, path, Unknown) {
         Ok(files) => Ok(files),
@@ -126,7 +133,7 @@ fn open_files(rt: &HostRuntime, path: &str) -> Result<Files<File>> {
 }
 
 /// All bytes of a file; none where it is missing.
-fn bytes_of(rt: &HostRuntime, path: &str) -> Result<Vec<u8>> {
+pub(crate) fn bytes_of(rt: &HostRuntime, path: &str) -> Result<Vec<u8>> {
     let alloc = rt.alloc();
     let mut bytes = Vec::new(alloc);
     match fs::File::open(rt, path) {
@@ -211,7 +218,7 @@ fn bring_over(
 }
 
 /// Has this user alone read and write a file. A missing one is made.
-fn make_private(rt: &HostRuntime, path: &str) -> Result<()> {
+pub(crate) fn make_private(rt: &HostRuntime, path: &str) -> Result<()> {
     let alloc = rt.alloc();
     let mode = Permissions::from_mode(0o600);
     let made = fs::OpenOptions::new()

@@ -2,15 +2,17 @@
 //! is acknowledged.
 #![tactic(auto)]
 
+mod care;
 mod files;
 
+use crate::care::{check, salvage};
 use crate::files::{open_site, token_in};
 use anyhow::Result;
 use clap::error::Error;
 use cue_doors::Guarded;
 use cue_http::{LoopError, serve};
 use cue_service::{AccessToken, Shown};
-use cue_settings::{Settings, SettingsError, command, may_listen, words_of};
+use cue_settings::{Settings, SettingsError, Task, command, may_listen, task_of, words_of};
 use log::sink::Console;
 use log::{Level, Log, Logged, error, info};
 use mio::net::TcpListener;
@@ -18,8 +20,8 @@ use std::env;
 use std::net::SocketAddr;
 use std::process::ExitCode;
 
-/// Serves until a round does not stand.
-fn run(rt: &HostRuntime, words: &Settings) -> Result<()> {
+/// Serves until a round does not stand. Answers true if it ends well.
+fn run(rt: &HostRuntime, words: &Settings) -> Result<bool> {
     let log = Logged::new(rt, Level::Info, Console(rt));
     let listen = words.listen(rt)?;
     let token = match words.token_file {
@@ -39,7 +41,7 @@ fn serve_at<L: Log>(
     words: &Settings,
     listen: SocketAddr,
     token: Option<AccessToken>,
-) -> Result<()> {
+) -> Result<bool> {
     let sources = words.sources(rt)?;
     let site = open_site(rt, log, words, token)?;
     let doors = words.doors(rt.alloc(), listen)?;
@@ -64,7 +66,7 @@ fn serve_at<L: Log>(
         guarded,
         u64::MAX,
     ) {
-        Ok(()) => Ok(()),
+        Ok(()) => Ok(true),
         Err(ended) => Err(stop_of(rt, words, ended)?.into()),
     }
 }
@@ -93,9 +95,17 @@ fn answer(rt: &HostRuntime, given: &[String]) -> Result<ExitCode> {
             return Ok(ExitCode::from(error.exit_code() as u8));
         }
     };
-    let words = words_of(rt.alloc(), &matches)?;
-    match run(rt, &words) {
-        Ok(()) => Ok(ExitCode::SUCCESS),
+    let done = match task_of(&matches) {
+        Task::Check(folder) => check(rt, folder),
+        Task::Salvage(folder, new) => salvage(rt, folder, new),
+        Task::Serve => {
+            let words = words_of(rt.alloc(), &matches)?;
+            run(rt, &words)
+        }
+    };
+    match done {
+        Ok(true) => Ok(ExitCode::SUCCESS),
+        Ok(false) => Ok(ExitCode::FAILURE),
         Err(stop) => {
             let log = Logged::new(rt, Level::Info, Console(rt));
             let line = format!(in rt.alloc(); "{stop}")?;
