@@ -46,6 +46,8 @@ set_budget() {
     '' | *[!0-9]* | ?????????????*) say "CUESTORE_MEMORY is no size, such as 512M: $CUESTORE_MEMORY"; exit 1 ;;
   esac
   size=$((10#$size * unit / 1024))
+  # With less the system cannot even load the program.
+  if [ "$size" -lt 4096 ]; then say "CUESTORE_MEMORY is at least 4M: $CUESTORE_MEMORY"; exit 1; fi
   now=$(ulimit -v)
   if [ "$now" = unlimited ] || [ "$now" -gt "$size" ]; then ulimit -v "$size"; fi
 }
