@@ -120,7 +120,7 @@ fn answer_at(
 
 /// The JSON and a line break, or the conflict lines, or the incomplete lines.
 fn export_at(alloc: Global, table: &Table<Row>) -> Result<(Vec<u8>, u8), Memory>
-    ensures { IfOk result (λ text. IsShownAt Question.Export table.now text.0.items text.1) }
+    ensures { IfOk result (λ text. IsShownAt SiteQuestion.Export table.now text.0.items text.1) }
 {
     let mut text = String::new(alloc);
     match write_export(alloc, table, &mut text)? {
@@ -135,7 +135,7 @@ fn export_at(alloc: Global, table: &Table<Row>) -> Result<(Vec<u8>, u8), Memory>
 
 /// The conflict lines, and then the incomplete lines.
 fn report_at(alloc: Global, table: &Table<Row>) -> Result<(Vec<u8>, u8), Memory>
-    ensures { IfOk result (λ text. IsShownAt Question.Report table.now text.0.items text.1) }
+    ensures { IfOk result (λ text. IsShownAt SiteQuestion.Report table.now text.0.items text.1) }
 {
     let mut text = String::new(alloc);
     let conflicting = write_conflicts(alloc, table, &mut text)?;
