@@ -1,9 +1,9 @@
 //! States that are read and written in pieces.
-use crate::command::disk::Entry;
-use crate::command::files::{blank_pages, disk, ends, has, ran_over};
-use crate::command::long_files::fields;
-use crate::command::runs::{acted, answers, owned, ran};
-use crate::command::states::ONE;
+use crate::disk::Entry;
+use crate::files::{blank_pages, disk, ends, has, ran_over};
+use crate::long_files::fields;
+use crate::runs::{acted, answers, owned, ran};
+use crate::states::ONE;
 use std::alloc::Global;
 use std::io;
 use std::io::Read;

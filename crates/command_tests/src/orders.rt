@@ -1,7 +1,7 @@
 //! Sites that take the same inputs in another order, again, or by way of other sites.
-use crate::command::disk::Entry;
-use crate::command::files::ran_over;
-use crate::command::runs::{Run, exports_bytes, state_of};
+use crate::disk::Entry;
+use crate::files::ran_over;
+use crate::runs::{Run, exports_bytes, state_of};
 use cue_program::FileSystem;
 use std::alloc::Global;
 use std::net::{Net, TcpListener, TcpStream};

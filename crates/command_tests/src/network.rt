@@ -1,9 +1,9 @@
 //! Sites over a network: ports and counts, both ends in this process, and what can't be sent.
-use crate::command::disk::Entry;
-use crate::command::files::{blank_pages, disk, ran_over};
-use crate::command::pieces::Slow;
-use crate::command::runs::{acted, answers, owned};
-use crate::command::states::ONE;
+use crate::disk::Entry;
+use crate::files::{blank_pages, disk, ran_over};
+use crate::pieces::Slow;
+use crate::runs::{acted, answers, owned};
+use crate::states::ONE;
 use cue_command::number_in;
 use cue_program::{Request, requests_for};
 use std::alloc::Global;

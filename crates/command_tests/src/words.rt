@@ -1,7 +1,7 @@
 //! Words of the command line.
-use crate::command::disk::Disk;
-use crate::command::files::{Pages, blank_pages, disk};
-use crate::command::runs::{Run, answers, owned};
+use crate::disk::Disk;
+use crate::files::{Pages, blank_pages, disk};
+use crate::runs::{Run, answers, owned};
 use cue_command::{given_words, report, run, unread_fault};
 use cue_program::{FileSystem, Output};
 use std::alloc::Global;

@@ -1,5 +1,5 @@
 //! Texts on standard input, and the lines that separate them.
-use crate::command::runs::exports;
+use crate::runs::exports;
 use std::test::Fail;
 
 #[test]

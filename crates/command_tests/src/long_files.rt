@@ -1,6 +1,6 @@
 //! Files that are longer than a text may be, which are read to their end and not kept whole.
-use crate::command::disk::Entry;
-use crate::command::files::ran_over;
+use crate::disk::Entry;
+use crate::files::ran_over;
 use std::alloc::Global;
 use std::test::Fail;
 

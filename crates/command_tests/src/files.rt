@@ -1,7 +1,7 @@
 //! Files that are named, in their order, those that fail, and the file that a merge writes.
-use crate::command::disk::{Disk, Entry, Out};
-use crate::command::runs::{Run, answers, ran, writes};
-use crate::command::states::ONE;
+use crate::disk::{Disk, Entry, Out};
+use crate::runs::{Run, answers, ran, writes};
+use crate::states::ONE;
 use cue_program::FileSystem;
 use std::alloc::Global;
 use std::cell::{Cell, RefCell};

@@ -1,5 +1,5 @@
 //! Readers and writers that fail, and how often one is read.
-use crate::command::runs::{acted, owned};
+use crate::runs::{acted, owned};
 use cue_command::act;
 use cue_program::{FileSystem, Output};
 use std::io;

@@ -1,5 +1,5 @@
 //! Bytes that are refused, as texts or as states, and where.
-use crate::command::runs::exports_bytes;
+use crate::runs::exports_bytes;
 use cue_program::FileSystem;
 use std::net::{Net, TcpListener, TcpStream};
 use std::test::Fail;

@@ -1,5 +1,5 @@
 //! State bytes that are taken, refused and written.
-use crate::command::runs::{answers, exports_bytes, state_of, writes};
+use crate::runs::{answers, exports_bytes, state_of, writes};
 use cue_program::FileSystem;
 use std::alloc::Global;
 use std::net::{Net, TcpListener, TcpStream};
