@@ -1,5 +1,6 @@
 pub mod Alike
 pub mod Asking
+pub mod Bearers
 pub mod Condensing
 pub mod Consistent
 pub mod Digests
@@ -7,8 +8,10 @@ pub mod Gathered
 pub mod Keeping
 pub mod Listing
 pub mod Opening
+pub mod Parts
 pub mod Pulls
 pub mod Rounds
 pub mod Routes
 pub mod Sparing
+pub mod Telling
 pub mod Worlds
