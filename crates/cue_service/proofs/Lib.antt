@@ -5,6 +5,7 @@ pub mod Condensing
 pub mod Consistent
 pub mod Digests
 pub mod Gathered
+pub mod Handing
 pub mod Keeping
 pub mod Listing
 pub mod Opening

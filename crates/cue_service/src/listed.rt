@@ -78,7 +78,7 @@ pub(crate) fn answer_pieces(
             return Ok(());
         }
     };
-    let body = Bytes::from_vec(body)?;
-    answer_body(response, StatusCode::OK, "application/octet-stream", body)?;
+    let kind = "application/octet-stream";
+    answer_body(response, StatusCode::OK, kind, Bytes::from_vec(body)?)?;
     name_cursor(alloc, pieces, response)
 }
