@@ -3,7 +3,6 @@ ghost use Rattle.cue_lattice.specs.World.{piece_refuses};
 ghost use Rattle.cue_replica.specs.Accepted.{IsAcceptable};
 ghost use Rattle.cue_replica.specs.Language.{language};
 ghost use Rattle.cue_replica.specs.Replica.{AddsRefusals};
-
 ghost use Rattle.cue_service.specs.Refusals.{IsRefusalOf};
 ghost use Rattle.cue_service.specs.Requests.{piece_of_bytes};
 ghost use Rattle.cue_service.specs.Tags.{tag_of};

@@ -21,9 +21,7 @@ use crate::entries::submit_piece;
 use crate::listed::{answer_pieces, name_with_state};
 use crate::page::page;
 use crate::refusal::answer_refusal;
-use crate::responses::{
-    answer_body, answer_field, answer_status, answer_tagged, answer_unchanged,
-};
+use crate::responses::{answer_body, answer_field, answer_status, answer_tagged, answer_unchanged};
 use crate::route::{PieceKind, Route, route_of};
 use crate::standing::Standing;
 use bytes::Bytes;
@@ -156,7 +154,12 @@ impl SiteCore {
             }
             Route::Take(hand) => self.accept_request(hand, request, response),
             Route::Health => {
-                answer_body(response, StatusCode::OK, PLAIN_TEXT, Bytes::from_static(b"up\n"))
+                answer_body(
+                    response,
+                    StatusCode::OK,
+                    PLAIN_TEXT,
+                    Bytes::from_static(b"up\n"),
+                )
             }
             Route::Metrics => {
                 let text = self.standing.metrics(self.alloc, &mut self.board)?;

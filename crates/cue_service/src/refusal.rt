@@ -21,7 +21,12 @@ pub(crate) fn answer_refusal(
 {
     let line = refusal_line(alloc, why, bytes)?;
     let body = Bytes::from_string(line)?;
-    answer_body(response, refusal_code(why.kind), "text/plain; charset=utf-8", body)
+    answer_body(
+        response,
+        refusal_code(why.kind),
+        "text/plain; charset=utf-8",
+        body,
+    )
 }
 
 fn refusal_code(kind: Kind) -> StatusCode

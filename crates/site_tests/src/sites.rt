@@ -215,10 +215,25 @@ fn posted(
 /// A field of a POST to a site with the token `sesame`, and the status and the first field of the answer.
 const GUARDED: &[(&str, &str, u16, &[u8])] = &[
     ("accept", "a", 401, b"www-authenticate: Bearer"),
-    ("authorization", "Bearer sesam", 401, b"www-authenticate: Bearer"),
-    ("authorization", "Bearer sesame2", 401, b"www-authenticate: Bearer"),
+    (
+        "authorization",
+        "Bearer sesam",
+        401,
+        b"www-authenticate: Bearer",
+    ),
+    (
+        "authorization",
+        "Bearer sesame2",
+        401,
+        b"www-authenticate: Bearer",
+    ),
     ("authorization", "Bearer ", 401, b"www-authenticate: Bearer"),
-    ("authorization", "Basic sesame", 401, b"www-authenticate: Bearer"),
+    (
+        "authorization",
+        "Basic sesame",
+        401,
+        b"www-authenticate: Bearer",
+    ),
     ("authorization", "bEARER sesame", 204, b""),
     ("authorization", "Bearer sesame", 204, b""),
 ];
