@@ -229,7 +229,7 @@ fn files<'w>(alloc: Global, found: &ArgMatches<'w>) -> Result<Vec<&'w str>, Allo
 fn copy_words<'w>(alloc: Global, words: &[&'w str]) -> Result<Vec<&'w str>, AllocError>
     ensures { IfOk result (λ list. list.items ≡ words.now) }
 {
-    words.iter().copy_body().collect(alloc)
+    words.iter().copied().collect(alloc)
 }
 
 /// The argument of this id.

@@ -15,7 +15,7 @@ ghost use Rattle.cue_report.specs.Inner.Writing.{BreaksInElements, BreaksInMembe
 ghost use Rattle.cue_report.specs.Inner.Writing.{PutsDocument};
 
 use crate::demand::{is_demanded, least_of};
-use crate::export::{is_free, pick_scalar};
+use crate::exporting::{is_free, pick_scalar};
 use crate::stream::Stream;
 use cue_device::TextSink;
 use cue_lattice::Memory;

@@ -4,7 +4,7 @@
 mod conflict;
 mod demand;
 mod document_text;
-mod export;
+mod exporting;
 mod gap;
 mod law;
 mod listed;
@@ -19,7 +19,7 @@ pub use conflict::{Conflict, conflicts, write_conflicts};
 pub use cue_lattice::Memory;
 pub use cue_row::{Row, Step, path_text};
 pub use cue_table::Table;
-pub use export::{document, export, write_export};
+pub use exporting::{document, export, write_export};
 pub use gap::{Gap, incomplete, write_gaps};
 pub use law::one_report;
 pub use outcome::{Export, ExportKind};

@@ -1,5 +1,5 @@
 use Rattle.cue_report.proofs.Documents.{one_chosen, one_first, none_first}
-use Rattle.cue_report.proofs.export.pick_scalar.Goals as goal
+use Rattle.cue_report.proofs.exporting.pick_scalar.Goals as goal
 
 pub returns-in-Some-clause-some : goal.returns-in-Some-clause-some
 returns-in-Some-clause-some c = one_chosen c.args.row.now c.in_ok-scalar.field-0 c.in-Some.scalar c.in-Some.is c.in_ok-scalar.ensures.some

@@ -2,7 +2,7 @@ use Rattle.std.proofs.Common.{sym, ◌∙◌, arith}
 use Rattle.std.proofs.lemmas.List.{nil_from_length}
 use Rattle.serde_json.specs.View.{view}
 use Rattle.cue_report.proofs.Exact.{none_meets, some_items, tells_document}
-use Rattle.cue_report.proofs.export.document.Goals as goal
+use Rattle.cue_report.proofs.exporting.document.Goals as goal
 
 pub returns-then-not-is_empty-clause-none : goal.returns-then-not-is_empty-clause-none
 returns-then-not-is_empty-clause-none c =

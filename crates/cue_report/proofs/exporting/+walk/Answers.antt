@@ -10,8 +10,8 @@ use Rattle.cue_report.specs.Inner.Search.{least_at}
 use Rattle.cue_report.proofs.DocumentMembers.{none_gathered, passed_index, passed_label, taken_label, all_gathered}
 use Rattle.cue_report.proofs.Documents.{free_place, free_none, struct_shape, list_shape, only_scalars, row_is, counted_in, counted_free}
 use Rattle.cue_report.proofs.Walk.{inner_smaller, none_left, label_demand_is}
-use Rattle.cue_report.proofs.export.+walk.Goals.{elements_of-in-None, elements_of-in-Some+in_ok-document-in-Some}
-use Rattle.cue_report.proofs.export.+walk.Goals as goal
+use Rattle.cue_report.proofs.exporting.+walk.Goals.{elements_of-in-None, elements_of-in-Some+in_ok-document-in-Some}
+use Rattle.cue_report.proofs.exporting.+walk.Goals as goal
 
 pub document_of-returns-in_default-clause-document : goal.document_of-returns-in_default-clause-document
 document_of-returns-in_default-clause-document t c = free_place c.args.branch.now None Null (sym c.in_default.ensures.row) refl free_none

@@ -3,7 +3,7 @@ use Rattle.cue_table.specs.Size.{tree_size}
 use Rattle.serde_json.specs.View.{items_view, members_view}
 use Rattle.cue_report.proofs.DocumentMembers.{IsGathered}
 use Rattle.cue_report.proofs.Documents.{IsCounted}
-use Rattle.cue_report.proofs.export.+walk.Given as goal
+use Rattle.cue_report.proofs.exporting.+walk.Given as goal
 
 abbrev pub decreases-document_of : goal.decreases-document_of
 decreases-document_of l = tree_size l.branch.now + tree_size l.branch.now + 1

@@ -1,6 +1,6 @@
 use Rattle.std.proofs.Common.{sym, ◌∙◌}
 use Rattle.std.proofs.lemmas.Bool.{false≢true}
-use Rattle.cue_report.proofs.export.is_free.Goals as goal
+use Rattle.cue_report.proofs.exporting.is_free.Goals as goal
 
 pub returns-then-not-struct_ok : goal.returns-then-not-struct_ok
 returns-then-not-struct_ok c = (λ h. absurd (false≢true h), λ free. absurd (free.1 (sym c.struct_ok.ensures ∙ c.if-not-struct_ok.true)))

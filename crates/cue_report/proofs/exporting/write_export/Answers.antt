@@ -4,7 +4,7 @@ use Rattle.cue_report.proofs.Exact.{export_shape}
 use Rattle.cue_report.proofs.Exported.{conflicts_told, conflicts_begun, no_conflicts, gaps_told, gaps_begun, no_gaps, json_told, json_begun}
 use Rattle.cue_report.proofs.Writing.{on_any}
 use Rattle.serde_json.specs.Written.{compact_text}
-use Rattle.cue_report.proofs.export.write_export.Goals as goal
+use Rattle.cue_report.proofs.exporting.write_export.Goals as goal
 
 pub returns-in_err-conflicting-clause-begun : goal.returns-in_err-conflicting-clause-begun
 returns-in_err-conflicting-clause-begun g c = on_any _ (conflicts_begun (Told c.args.table.now) _ _ c.in_err-conflicting.ensures.begun)

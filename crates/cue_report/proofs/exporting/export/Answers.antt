@@ -1,7 +1,7 @@
 use Rattle.std.proofs.Common.{refl, sym, ◌∙◌, arith}
 use Rattle.std.proofs.lemmas.List.{nil_from_length}
 use Rattle.cue_report.proofs.Exact.{none_meets, some_meets, some_items, tells_export, export_shape}
-use Rattle.cue_report.proofs.export.export.Goals as goal
+use Rattle.cue_report.proofs.exporting.export.Goals as goal
 
 pub returns-then-not-is_empty-clause-exact : goal.returns-then-not-is_empty-clause-exact
 returns-then-not-is_empty-clause-exact c =

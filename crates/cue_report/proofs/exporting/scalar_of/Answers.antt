@@ -1,7 +1,7 @@
 use Rattle.serde_json.specs.View.{view}
 use Rattle.serde_json.specs.declared.value.Value.{Null}
 use Rattle.cue_report.proofs.Documents.{told_one, told_none}
-use Rattle.cue_report.proofs.export.scalar_of.Goals as goal
+use Rattle.cue_report.proofs.exporting.scalar_of.Goals as goal
 
 pub returns-in-None-clause-picked : goal.returns-in-None-clause-picked
 returns-in-None-clause-picked c form = told_none c.args.row.now c.in_ok-pick_scalar.field-0 (view Null) c.in-None.is (c.in_ok-pick_scalar.ensures.none form)
