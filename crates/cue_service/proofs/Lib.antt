@@ -4,6 +4,7 @@ pub mod Bearers
 pub mod Condensing
 pub mod Consistent
 pub mod Digests
+pub mod Fields
 pub mod Gathered
 pub mod Handing
 pub mod Keeping

@@ -400,9 +400,15 @@ fn is_known(request: &Request<Bytes>, tag: &[u8]) -> bool
     ensures { IsTrue result ↔ HasField (codes "if-none-match") tag.now request.now }
 {
     match request.headers().get("if-none-match") {
-        Some(known) => known.as_bytes() == tag,
+        Some(known) => is_tag(known.as_bytes(), tag),
         None => false,
     }
+}
+
+fn is_tag(value: &[u8], tag: &[u8]) -> bool
+    ensures { IsTrue result ↔ (value.now ≡ tag.now) }
+{
+    value == tag
 }
 
 fn status_code(question: SiteQuestion, status: Status) -> StatusCode

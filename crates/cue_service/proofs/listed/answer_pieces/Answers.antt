@@ -49,5 +49,5 @@ returns-in-None c =
       asks = c.in-Some.ensures.some.1;
       cursor = c.in-Some.ensures.some.2;
       not_kept = subst (λ (o : Option (Vec ℕ Global)). IfNone o (¬ KeepsPieces pieces run count)) c.in-None.is c.in_ok-body.ensures.none;
-      answer = c.answer_status.ensures;
+      answer = c.answer_status-in-None.ensures;
     }))
