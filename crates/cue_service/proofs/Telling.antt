@@ -1,7 +1,6 @@
 -- An answer of the table, from what is kept.
 use Rattle.std.proofs.Common.{◌≡◌, ℕ, List, [], ◌∷◌, Result, Ok, Err, OnOk, ap, ◌∙◌, subst, inl, inr}
 use Rattle.http.specs.declared.request.Request.{Request}
-use Rattle.http1.specs.Fields.{Header}
 use Rattle.http_server.specs.declared.response.Response.{Response}
 use Rattle.http_server.specs.Response.{IsResponse}
 use Rattle.cue_answer.specs.declared.question.SiteQuestion.{SiteQuestion}

@@ -2,7 +2,7 @@
 use Rattle.std.specs.List.{Contains}
 use Rattle.cue_pieces.specs.Listed.{GivesUp}
 use Rattle.std.specs.Prelude.{◌≡◌, ◌⊎◌, ◌<◌, ◌^◌, ℕ, List, [], ◌∷◌, ◌++◌, length, codes}
-use Rattle.cue_lattice.specs.World.{Piece, text, state, piece_refuses}
+use Rattle.cue_lattice.specs.World.{Piece, state, piece_refuses}
 use Rattle.cue_replica.specs.Accepted.{IsAcceptable}
 use Rattle.cue_replica.specs.Language.{Table, language}
 use Rattle.cue_replica.specs.Replica.{AddsRefusals}

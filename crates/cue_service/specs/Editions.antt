@@ -1,5 +1,5 @@
 -- Numbers of editions of a table.
-use Rattle.std.specs.Prelude.{◌≡◌, ◌↔◌, ◌⊎◌, ℕ, List, Option, Some}
+use Rattle.std.specs.Prelude.{◌≡◌, ◌↔◌, ◌⊎◌, ℕ, List, Some}
 use Rattle.std.specs.Option.{option_map}
 use Rattle.cue_service.specs.declared.editions.Editions.{Editions}
 

@@ -1,5 +1,5 @@
 -- How a page shows a text.
-use Rattle.std.specs.Prelude.{◌≡◌, ◌==◌, ◌≤◌, ◌⊎◌, ◌++◌, ◌∷◌, [], ℕ, List, Bool, ◌&&◌, ◌||◌, false, codes, if◌then◌else◌, nat_le}
+use Rattle.std.specs.Prelude.{◌==◌, ◌++◌, ◌∷◌, [], ℕ, List, Bool, ◌&&◌, ◌||◌, false, codes, if◌then◌else◌, nat_le}
 use Rattle.std.specs.List.{flat_map}
 use Rattle.std.specs.Str.{chars}
 use Rattle.std.specs.Fmt.{digits}

@@ -1,5 +1,5 @@
 -- When a snapshot of the state takes the place of the journal that grows.
-use Rattle.std.specs.Prelude.{◌≢◌, ◌≤◌, ◌+◌, ◌*◌, ℕ, max, IfSome}
+use Rattle.std.specs.Prelude.{◌≢◌, ◌≤◌, ◌+◌, ◌*◌, ℕ, IfSome}
 use Rattle.cue_service.specs.declared.snapshots.Snapshots.{Snapshots}
 
 -- The journal has 1 MiB behind the last snapshot, and as much as that has. Where one was refused since, it

@@ -1,4 +1,3 @@
-use Rattle.std.proofs.Common.{sym}
 use Rattle.cue_service.proofs.Bearers.{with_scheme, without_scheme}
 use Rattle.cue_service.proofs.access.is_bearer.Goals as goal
 

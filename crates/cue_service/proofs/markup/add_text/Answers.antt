@@ -1,4 +1,4 @@
-use Rattle.std.proofs.Common.{string_bytes, OnOk}
+use Rattle.std.proofs.Common.{string_bytes}
 use Rattle.cue_service.proofs.Parts.{grown_if}
 use Rattle.cue_service.proofs.markup.add_text.Goals as goal
 
