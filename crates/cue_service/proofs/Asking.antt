@@ -8,7 +8,9 @@ use Rattle.http_header.specs.FieldValue.{IsFieldValue}
 use Rattle.http_header.specs.Token.{is_value_byte}
 use Rattle.bytes.specs.Filled.{Filled}
 use Rattle.http.specs.declared.request.Request.{Request}
+use Rattle.http1.specs.Fields.{Header}
 use Rattle.http_server.specs.declared.response.Response.{Response}
+use Rattle.http_server.specs.Response.{fields_of}
 use Rattle.cue_answer.specs.declared.question.SiteQuestion.{SiteQuestion}
 use Rattle.cue_replica.specs.Language.{Table}
 use Rattle.cue_service.specs.Answering.{IsAsked}
@@ -71,8 +73,25 @@ pub cursor_may_stand : (run count : ℕ) → run < 2 ^ 64 → count < 2 ^ 64 →
 cursor_may_stand run count small less =
     All-from_recursion (λ b. IsTrue (is_value_byte b)) (cursor_text run count) (all_stand (cursor_text run count) (plain_text run count small less))
 
--- a response with more fields answers as before
-pub asked_still : (question : SiteQuestion) (table : Table) (request : Request (List ℕ)) (before after : Response) → IsAsked question table request before
-    → after.status ≡ before.status → after.body ≡ before.body → IsAsked question table request after
-asked_still question table request before after (inl known) status body = inl (status ∙ known.0, known.1)
-asked_still question table request before after (inr told) status body = inr (told.0, told.1, status ∙ told.2, ap (λ (b : Filled). b.items) body ∙ told.3)
+-- a response with these fields more
+pub asked_more :
+    (question : SiteQuestion) (table : Table) (request : Request (List ℕ)) (more : List Header) (before after : Response) → IsAsked question table request [] before
+    → after.status ≡ before.status → after.body ≡ before.body → fields_of after ≡ fields_of before ++ more → IsAsked question table request more after
+asked_more question table request more before after (inl same) status body fields = inl (record {
+  known = same.known;
+  answer = record {
+    status = status ∙ same.answer.status;
+    headers = fields ∙ ap (λ (l : List Header). l ++ more) same.answer.headers;
+    body = ap (λ (b : Filled). b.items) body ∙ same.answer.body;
+  };
+})
+asked_more question table request more before after (inr told) status body fields = inr (record {
+  unknown = told.unknown;
+  told = told.told;
+  whole = told.whole;
+  answer = record {
+    status = status ∙ told.answer.status;
+    headers = fields ∙ ap (λ (l : List Header). l ++ more) told.answer.headers;
+    body = ap (λ (b : Filled). b.items) body ∙ told.answer.body;
+  };
+})

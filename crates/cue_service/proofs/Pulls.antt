@@ -16,7 +16,8 @@ use Rattle.cue_service.specs.declared.desk.SiteCore.{SiteCore}
 use Rattle.cue_service.specs.Answering.{GathersPiece, GathersPieces}
 use Rattle.cue_service.specs.Entries.{entry_of, piece_of_entry}
 use Rattle.cue_service.specs.Listing.{AreListed}
-use Rattle.cue_service.specs.Pulls.{CoversPiece, CoversAll, IsOfListed, IsRefusalOf}
+use Rattle.cue_service.specs.Pulls.{CoversPiece, CoversAll, IsOfListed}
+use Rattle.cue_service.specs.Refusals.{IsRefusalOf}
 use Rattle.cue_service.proofs.Alike.{read_back}
 
 -- a table that adds something refuses what it refused, and what was added
@@ -105,13 +106,13 @@ pub state_why :
     (bytes : List ℕ) (why : Refusal) → ((why ≡ memory) × (language.IsStateRefusedAtOnce bytes → ⊥)) ⊎ language.IsStateFault bytes why
     → IsRefusalOf (state bytes) why
 state_why bytes why (inl starved) = inl (ap (λ (w : Refusal). w.kind) starved.0)
-state_why bytes why (inr fault) = inr (λ is. sound.no_state_fault bytes why is fault)
+state_why bytes why (inr fault) = inr (λ is. sound.no_state_fault bytes why is fault, fault)
 
 pub text_why :
     (bytes : List ℕ) (why : Refusal) → ((why ≡ memory) × (language.IsTextRefusedAtOnce bytes → ⊥)) ⊎ language.IsTextFault bytes why
     → IsRefusalOf (text bytes) why
 text_why bytes why (inl starved) = inl (ap (λ (w : Refusal). w.kind) starved.0)
-text_why bytes why (inr fault) = inr (λ is. sound.no_text_fault bytes why is fault)
+text_why bytes why (inr fault) = inr (λ is. sound.no_text_fault bytes why is fault, inl fault)
 
 pub state_refusal :
     {T : Type 0} (result : Result T Refusal) (bytes : List ℕ)

@@ -5,8 +5,11 @@ use Rattle.std.specs.Str.{bytes_eq}
 use Rattle.http.specs.declared.request.Request.{Request}
 use Rattle.http.specs.Request.{body_of}
 use Rattle.http_server.specs.declared.response.Response.{Response}
+use Rattle.http_server.specs.Response.{IsResponse}
 use Rattle.http_server.specs.Exchange.{Call, Chain}
 use Rattle.cue_lattice.specs.World.{Piece, IsInSet, text, state}
+use Rattle.cue_lattice.specs.declared.refusal.Kind.{Kind}
+use Rattle.cue_lattice.specs.declared.refusal.Kind.TheVariants as kinds
 use Rattle.cue_journal.specs.Pairs.{is_whole}
 use Rattle.cue_journal.specs.declared.pair.JournalPair.{JournalPair}
 use Rattle.cue_service.specs.declared.site.Site.{Site}
@@ -16,7 +19,8 @@ use Rattle.cue_service.specs.declared.route.Route.TheVariants.{Ask, Pieces, Take
 use Rattle.cue_service.specs.declared.route.PieceKind.{PieceKind}
 use Rattle.cue_service.specs.declared.route.PieceKind.TheVariants as hands
 use Rattle.cue_service.specs.Requests.{IsRoute, piece_of_bytes, piece_in}
-use Rattle.cue_service.specs.Answering.{AnswersRequest, AnswersAs, IsAsked, IsSame, IsPieceTaken, IsTagKnown, IsSpared, LeavesUnanswered, GathersPieces, status_of_refusal}
+use Rattle.cue_service.specs.Answering.{AnswersRequest, AnswersAs, IsAsked, IsSame, IsPieceTaken, IsTagKnown, IsSpared, LeavesUnanswered, GathersPieces}
+use Rattle.cue_service.specs.Statuses.{place_fields, status_of_answer, status_of_refusal}
 use Rattle.cue_service.specs.Listing.{AreListed, AnswersWithPieces}
 use Rattle.cue_service.specs.Sites.{AnswersAt, IsConsistent, Settles, Leaves}
 use Rattle.cue_service.specs.Promise.{acknowledged_by, acknowledged_pieces, AreSomeOf}
@@ -44,13 +48,41 @@ handed_in hands.Text request route = ap (λ path. if bytes_eq path (codes "/stat
 handed_in hands.State request route = ap (λ path. if bytes_eq path (codes "/state") then state (body_of request) else text (body_of request)) route.1
 
 -- what is told has another status
-told_status : (question : SiteQuestion) (status : Status) → status_of_refusal question status ≢ 204
+told_status : (question : SiteQuestion) (status : Status) → status_of_answer question status ≢ 204
 told_status questions.Export statuses.Done = omega arith
 told_status questions.Export statuses.Conflicts = omega arith
 told_status questions.Export statuses.Incomplete = omega arith
 told_status questions.Print status = omega arith
 told_status questions.Report status = omega arith
 told_status questions.State status = omega arith
+
+-- so has what is refused
+refused_status : (kind : Kind) → status_of_refusal kind ≢ 204
+refused_status kinds.TooLong = omega arith
+refused_status kinds.Memory = omega arith
+refused_status kinds.BadCharacter = omega arith
+refused_status kinds.BadString = omega arith
+refused_status kinds.BadNumber = omega arith
+refused_status kinds.IntRange = omega arith
+refused_status kinds.TextTooLong = omega arith
+refused_status kinds.Syntax = omega arith
+refused_status kinds.Nesting = omega arith
+refused_status (kinds.LeftOut form) = omega arith
+refused_status kinds.UnknownName = omega arith
+refused_status kinds.FieldReference = omega arith
+refused_status kinds.Repeated = omega arith
+refused_status kinds.Cycle = omega arith
+refused_status kinds.TooLarge = omega arith
+refused_status kinds.TooDeep = omega arith
+refused_status kinds.NotScalar = omega arith
+refused_status kinds.Version = omega arith
+refused_status kinds.NotState = omega arith
+refused_status kinds.FrameTooLong = omega arith
+refused_status kinds.BadRequest = omega arith
+refused_status kinds.TurnsUsed = omega arith
+refused_status kinds.Device = omega arith
+refused_status kinds.ReplyTooLong = omega arith
+refused_status kinds.Failed = omega arith
 
 -- a call takes in the piece that it acknowledges, or it is known, or the call changes nothing
 abbrev pub Moves : SiteCore → Request (List ℕ) → Response → SiteCore → Type 0
@@ -69,25 +101,28 @@ handed_to hand old new request response is done (inl taken) =
 handed_to hand old new request response is done (inr known) =
     inr (inl (piece_of_bytes hand (body_of request), known, is_acknowledged request response done ∙ ap (λ (p : Piece). p ∷ []) (handed_in hand request is)))
 
-asked : (question : SiteQuestion) (old new : SiteCore) (request : Request (List ℕ)) (response : Response) → IsSame old new → IsAsked question old.board request response → Moves old request response new
-asked question old new request response same (inl known) = nothing old new request response 304 same known.0 (omega arith)
-asked question old new request response same (inr told) = nothing old new request response _ same told.2 (told_status question told.0.status)
+asked : (question : SiteQuestion) (old new : SiteCore) (request : Request (List ℕ)) (response : Response) → IsSame old new → IsAsked question old.board request (place_fields question old.pieces) response → Moves old request response new
+asked question old new request response same (inl known) = nothing old new request response 304 same known.answer.status (omega arith)
+asked question old new request response same (inr told) = nothing old new request response _ same told.answer.status (told_status question told.told.status)
 
 told_pieces : (old new : SiteCore) (request : Request (List ℕ)) (response : Response) → IsSame old new → AnswersWithPieces old.pieces request response → Moves old request response new
-told_pieces old new request response same (inl told) = nothing old new request response 200 same told.status (omega arith)
-told_pieces old new request response same (inr (inl gone)) = nothing old new request response 410 same gone.status (omega arith)
-told_pieces old new request response same (inr (inr none)) = nothing old new request response 400 same none.status (omega arith)
+told_pieces old new request response same (inl told) = nothing old new request response 200 same told.head.0 (omega arith)
+told_pieces old new request response same (inr (inl gone)) = nothing old new request response 410 same gone.answer.status (omega arith)
+told_pieces old new request response same (inr (inr none)) = nothing old new request response 400 same none.answer.status (omega arith)
 
 moves : (route : Route) (old new : SiteCore) (request : Request (List ℕ)) (response : Response) → IsRoute route request → AnswersAs route old request response new → Moves old request response new
 moves (Ask question) old new request response is a = asked question old new request response a.0 a.1
 moves Pieces old new request response is a = told_pieces old new request response a.0 a.1
-moves (Take hand) old new request response is (inl done) = handed_to hand old new request response is done.1 done.0
-moves (Take hand) old new request response is (inr refused) = inr (inr (refused.0, not_acknowledged request response refused.1))
-moves Health old new request response is a = nothing old new request response 200 a.0 a.1 (omega arith)
-moves Metrics old new request response is a = nothing old new request response 200 a.0 a.1 (omega arith)
-moves Page old new request response is a = nothing old new request response 200 a.0 a.1 (omega arith)
-moves OtherMethod old new request response is a = nothing old new request response 405 a.0 a.1 (omega arith)
-moves Unknown old new request response is a = nothing old new request response 404 a.0 a.1 (omega arith)
+moves (Take hand) old new request response is (inl (inl barred)) = nothing old new request response 401 barred.same barred.answer.status (omega arith)
+moves (Take hand) old new request response is (inl (inr encoded)) = nothing old new request response 415 encoded.same encoded.answer.status (omega arith)
+moves (Take hand) old new request response is (inr (inl done)) = handed_to hand old new request response is done.answer.status done.done
+moves (Take hand) old new request response is (inr (inr refused)) =
+    inr (inr (refused.same, not_acknowledged request response (λ e. refused_status refused.why.kind (sym refused.answer.0 ∙ e))))
+moves Health old new request response is a = nothing old new request response 200 a.0 a.1.status (omega arith)
+moves Metrics old new request response is a = nothing old new request response 200 a.0 a.1.0 (omega arith)
+moves Page old new request response is a = nothing old new request response 200 a.0 a.1.0 (omega arith)
+moves OtherMethod old new request response is a = nothing old new request response 405 a.0 a.1.status (omega arith)
+moves Unknown old new request response is a = nothing old new request response 404 a.0 a.1.status (omega arith)
 
 moved_unanswered : (route : Route) (old new : SiteCore) (request : Request (List ℕ)) (response : Response) (code : ℕ) → LeavesUnanswered route old new → response.status ≡ code → code ≢ 204
     → Moves old request response new
@@ -96,9 +131,9 @@ moved_unanswered route old new request response code same is other = inr (inr (u
 pub moved : (old new : SiteCore) (request : Request (List ℕ)) (response : Response) → AnswersRequest old request response new → Moves old request response new
 moved old new request response answers = by answers.2
   where
-    by : AnswersAs answers.0 old request response new ⊎ (LeavesUnanswered answers.0 old new × (response.status ≡ 507)) → Moves old request response new
+    by : AnswersAs answers.0 old request response new ⊎ (LeavesUnanswered answers.0 old new × IsResponse 507 [] [] response) → Moves old request response new
     by (inl told) = moves answers.0 old new request response answers.1 told
-    by (inr wanting) = moved_unanswered answers.0 old new request response 507 wanting.0 wanting.1 (omega arith)
+    by (inr wanting) = moved_unanswered answers.0 old new request response 507 wanting.0 wanting.1.status (omega arith)
 
 has_left : (xs ys : List Piece) (piece : Piece) → IsInSet xs piece → IsInSet (xs ++ ys) piece
 has_left [] ys piece has = absurd has

@@ -17,20 +17,23 @@ use Rattle.cue_service.proofs.Listing.{listed_less}
 
 pub spared : (old new : SiteCore) → IsSame old new → IsSpared old new
 spared old new same = record {
+  token = same.token;
   table = same.table;
   waits = same.waits;
   pieces = subst (GivesUp old.pieces) (sym same.pieces) (none_given_up old.pieces);
 }
 
-pub spared_from : (old mid new : SiteCore) → mid.board ≡ old.board → batch_bytes mid.batch ≡ batch_bytes old.batch → GivesUp old.pieces mid.pieces → IsSame mid new → IsSpared old new
-spared_from old mid new table waits gives same = record {
+pub spared_from : (old mid new : SiteCore) → mid.token ≡ old.token → mid.board ≡ old.board → batch_bytes mid.batch ≡ batch_bytes old.batch → GivesUp old.pieces mid.pieces → IsSame mid new → IsSpared old new
+spared_from old mid new token table waits gives same = record {
+  token = same.token ∙ token;
   table = same.table ∙ table;
   waits = same.waits ∙ waits;
   pieces = subst (GivesUp old.pieces) (sym same.pieces) gives;
 }
 
-pub taken_spared : (piece : Piece) (old mid new : SiteCore) → mid.board ≡ old.board → batch_bytes mid.batch ≡ batch_bytes old.batch → GivesUp old.pieces mid.pieces → IsPieceTaken piece mid new → IsPieceTaken piece old new
-taken_spared piece old mid new table waits gives taken = record {
+pub taken_spared : (piece : Piece) (old mid new : SiteCore) → mid.token ≡ old.token → mid.board ≡ old.board → batch_bytes mid.batch ≡ batch_bytes old.batch → GivesUp old.pieces mid.pieces → IsPieceTaken piece mid new → IsPieceTaken piece old new
+taken_spared piece old mid new token table waits gives taken = record {
+  token = taken.token ∙ token;
   acceptable = taken.acceptable;
   fits = taken.fits;
   adds = subst (λ (t : Table). AddsRefusals t (piece_refuses language piece) new.board) table taken.adds;

@@ -17,6 +17,7 @@ use Rattle.cue_answer.specs.declared.question.SiteQuestion.TheVariants as questi
 use Rattle.http.specs.declared.request.Request.{Request}
 use Rattle.http.specs.Request.{head_of}
 use Rattle.http_server.specs.declared.response.Response.{Response}
+use Rattle.http_server.specs.Response.{IsResponse}
 use Rattle.http_server.specs.Exchange.{Call}
 use Rattle.cue_service.specs.declared.desk.SiteCore.{SiteCore}
 use Rattle.cue_service.specs.declared.site.Site.{Site}
@@ -25,7 +26,9 @@ use Rattle.cue_service.specs.declared.route.Route.TheVariants.{Ask, Pieces, Take
 use Rattle.cue_service.specs.declared.route.PieceKind.{PieceKind}
 use Rattle.cue_service.specs.declared.route.PieceKind.TheVariants as hands
 use Rattle.cue_service.specs.Requests.{IsRoute, path_of}
-use Rattle.cue_service.specs.Answering.{AnswersRequest, AnswersAs, IsAsked, IsSame, IsSpared, IsPieceTaken, LeavesUnanswered, GathersPieces, bytes_in}
+use Rattle.cue_service.specs.Answering.{AnswersRequest, AnswersAs, IsAsked, IsSame, IsSpared, IsPieceTaken, LeavesUnanswered, GathersPieces}
+use Rattle.cue_service.specs.Refusals.{bytes_in}
+use Rattle.cue_service.specs.Statuses.{place_fields}
 use Rattle.cue_service.specs.Promise.{acknowledged_by}
 use Rattle.cue_service.specs.Worlds.{IsSiteWorld, IsStateAnswer, AreSiteEventsOf, SiteEventsLeadTo, TookOver, IsPieceIn, TookPieces, AreCallsEvents, AreGathersEvents, AreGatheredPiecesEvents}
 use Rattle.cue_service.proofs.Rounds.{Moves, moved}
@@ -232,12 +235,12 @@ other_status code request response is differ asked = differ (sym is ∙ asked.1)
 abbrev is_quiet : SiteCore → Request (List ℕ) → Response → Type 0
 is_quiet old request response = (IsStateAnswer (request, response) × (response.body.items ≡ language.written old.board)) ⊎ (¬ IsStateAnswer (request, response))
 
-asked_quiet : (question : SiteQuestion) (old new : SiteCore) (request : Request (List ℕ)) (response : Response) → IsRoute (Ask question) request → IsAsked question old.board request response → is_quiet old request response
-asked_quiet question old new request response route (inl known) = inr (other_status 304 request response known.0 (omega arith))
+asked_quiet : (question : SiteQuestion) (old new : SiteCore) (request : Request (List ℕ)) (response : Response) → IsRoute (Ask question) request → IsAsked question old.board request (place_fields question old.pieces) response → is_quiet old request response
+asked_quiet question old new request response route (inl known) = inr (other_status 304 request response known.answer.status (omega arith))
 asked_quiet questions.Export old new request response route (inr told) = inr (other_path (codes "/export") request response route.1 (other_at 1 _ _ (omega arith)))
 asked_quiet questions.Print old new request response route (inr told) = inr (other_path (codes "/print") request response route.1 (other_at 1 _ _ (omega arith)))
 asked_quiet questions.Report old new request response route (inr told) = inr (other_path (codes "/report") request response route.1 (other_at 1 _ _ (omega arith)))
-asked_quiet questions.State old new request response route (inr told) = inl ((route, told.2), told.3 ∙ told.1.0)
+asked_quiet questions.State old new request response route (inr told) = inl ((route, told.answer.status), told.answer.body ∙ told.whole.0)
 
 quiet : (route : Route) (old new : SiteCore) (request : Request (List ℕ)) (response : Response) → IsRoute route request → AnswersAs route old request response new → is_quiet old request response
 quiet (Ask question) old new request response is a = asked_quiet question old new request response is a.1
@@ -253,15 +256,15 @@ quiet (Take hand) old new request response is a = inr (posted hand is)
 quiet Health old new request response is a = inr (other_path (codes "/healthz") request response is.1 (other_at 1 _ _ (omega arith)))
 quiet Metrics old new request response is a = inr (other_path (codes "/metrics") request response is.1 (other_at 1 _ _ (omega arith)))
 quiet Page old new request response is a = inr (other_path (codes "/") request response is.1 (other_at 1 _ _ (omega arith)))
-quiet OtherMethod old new request response is a = inr (other_status 405 request response a.1 (omega arith))
-quiet Unknown old new request response is a = inr (other_status 404 request response a.1 (omega arith))
+quiet OtherMethod old new request response is a = inr (other_status 405 request response a.1.status (omega arith))
+quiet Unknown old new request response is a = inr (other_status 404 request response a.1.status (omega arith))
 
 is_quiet_call : (old new : SiteCore) (request : Request (List ℕ)) (response : Response) → AnswersRequest old request response new → is_quiet old request response
 is_quiet_call old new request response answers = by answers.2
   where
-    by : AnswersAs answers.0 old request response new ⊎ (LeavesUnanswered answers.0 old new × (response.status ≡ 507)) → is_quiet old request response
+    by : AnswersAs answers.0 old request response new ⊎ (LeavesUnanswered answers.0 old new × IsResponse 507 [] [] response) → is_quiet old request response
     by (inl told) = quiet answers.0 old new request response answers.1 told
-    by (inr wanting) = inr (other_status 507 request response wanting.1 (omega arith))
+    by (inr wanting) = inr (other_status 507 request response wanting.1.status (omega arith))
 
 -- one call
 one_call : IsSoundLanguage Table language → (site : ℕ) (old new : SiteCore) (request : Request (List ℕ)) (response : Response) (messages : List (List ℕ)) (tables : List Table) (sets : Sets)

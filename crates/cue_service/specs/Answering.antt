@@ -1,20 +1,20 @@
 -- What a site answers to a request, and what that does to it.
 use Rattle.std.specs.List.{Contains}
 use Rattle.cue_pieces.specs.Listed.{GivesUp}
-use Rattle.std.specs.Prelude.{◌≡◌, ◌≢◌, ◌⊎◌, ◌<◌, ◌^◌, ℕ, List, [], ◌∷◌, ◌++◌, length, codes}
-use Rattle.cue_lattice.specs.World.{Piece, text, state, piece_refuses}
+use Rattle.std.specs.Prelude.{◌≡◌, ◌⊎◌, ◌<◌, ◌^◌, ℕ, List, [], ◌∷◌, ◌++◌, length, codes}
+use Rattle.cue_lattice.specs.World.{Piece, state, piece_refuses}
 use Rattle.cue_replica.specs.Accepted.{IsAcceptable}
 use Rattle.cue_replica.specs.Language.{Table, language}
 use Rattle.cue_replica.specs.Replica.{AddsRefusals}
 use Rattle.cue_answer.specs.Answers.{IsWholeAnswer}
 use Rattle.cue_answer.specs.declared.question.SiteQuestion.{SiteQuestion}
-use Rattle.cue_answer.specs.declared.question.SiteQuestion.TheVariants as questions
-use Rattle.cue_answer.specs.declared.question.Status.{Status}
-use Rattle.cue_answer.specs.declared.question.Status.TheVariants as statuses
 use Rattle.cue_answer.specs.declared.told.Answer.{Answer}
 use Rattle.http.specs.declared.request.Request.{Request}
 use Rattle.http.specs.Request.{body_of}
+use Rattle.http1.specs.Fields.{Header}
 use Rattle.http_server.specs.declared.response.Response.{Response}
+use Rattle.http_server.specs.Response.{IsResponse}
+use Rattle.cue_lattice.specs.declared.refusal.Refusal.{Refusal}
 use Rattle.cue_journal.specs.Blocks.{recovered_pieces}
 use Rattle.cue_journal.specs.Settled.{IsBatch}
 use Rattle.cue_journal.specs.Batches.{batch_bytes}
@@ -23,8 +23,12 @@ use Rattle.cue_service.specs.declared.route.PieceKind.{PieceKind}
 use Rattle.cue_service.specs.declared.route.Route.{Route}
 use Rattle.cue_service.specs.declared.route.Route.TheVariants.{Ask, Pieces, Take, Health, Metrics, Page, OtherMethod, Unknown}
 use Rattle.cue_service.specs.Entries.{entry_of}
-use Rattle.cue_service.specs.Listing.{AreListed, IsNamedPlace, AnswersWithPieces}
-use Rattle.cue_service.specs.Requests.{IsRoute, HasField, piece_of_bytes}
+use Rattle.cue_service.specs.Access.{MayWrite}
+use Rattle.cue_service.specs.Listing.{AreListed, AnswersWithPieces}
+use Rattle.cue_service.specs.Pages.{IsPage}
+use Rattle.cue_service.specs.Refusals.{IsLeftOut, bytes_in}
+use Rattle.cue_service.specs.Requests.{IsRoute, HasField, HasEncodedBody, piece_of_bytes}
+use Rattle.cue_service.specs.Statuses.{HasHead, status_of_answer, status_of_refusal, type_of_answer, type_field, tag_field, token_field, methods_field, codings_field, place_fields, plain_text}
 use Rattle.cue_service.specs.Tags.{tag_of}
 
 -- state bytes are accepted by a table
@@ -35,16 +39,14 @@ pub record BringsState (bytes : List ℕ) (old new : Table) : Type 0 where
 
 -- nothing changes but counts
 pub record IsSame (old new : SiteCore) : Type 0 where
+  pub token : new.token ≡ old.token
   pub table : new.board ≡ old.board
   pub waits : batch_bytes new.batch ≡ batch_bytes old.batch
   pub pieces : new.pieces ≡ old.pieces
 
-abbrev pub bytes_in : Piece → List ℕ
-bytes_in (text bytes) = bytes
-bytes_in (state bytes) = bytes
-
 -- the table takes in a piece, which waits behind the others, and is the last that was accepted
 pub record IsPieceTaken (piece : Piece) (old new : SiteCore) : Type 0 where
+  pub token : new.token ≡ old.token
   pub acceptable : IsAcceptable piece
   pub fits : length (bytes_in piece) < 2 ^ 64
   pub adds : AddsRefusals old.board (piece_refuses language piece) new.board
@@ -67,41 +69,80 @@ pub record IsTagKnown (piece : Piece) (old new : SiteCore) : Type 0 where
 
 -- nothing changes but counts, and that older pieces may be given up, to free memory
 pub record IsSpared (old new : SiteCore) : Type 0 where
+  pub token : new.token ≡ old.token
   pub table : new.board ≡ old.board
   pub waits : batch_bytes new.batch ≡ batch_bytes old.batch
   pub pieces : GivesUp old.pieces new.pieces
 
--- the number that goes with what is told
-abbrev pub status_of_refusal : SiteQuestion → Status → ℕ
-status_of_refusal questions.Export statuses.Conflicts = 409
-status_of_refusal questions.Export statuses.Incomplete = 422
-status_of_refusal question status = 200
+-- a question of one who has the tag of the table: nothing is new
+pub record IsUnchanged (table : Table) (request : Request (List ℕ)) (more : List Header) (response : Response) : Type 0 where
+  pub known : HasField (codes "if-none-match") (tag_of table) request
+  pub answer : IsResponse 304 (tag_field table ∷ more) [] response
 
--- a question is answered of the table, or the one who asks has the table
-abbrev pub IsAsked : SiteQuestion → Table → Request (List ℕ) → Response → Type 0
-IsAsked question table request response =
-    ((response.status ≡ 304) × HasField (codes "if-none-match") (tag_of table) request)
-    ⊎ ((answer : Answer) × IsWholeAnswer question table answer
-    × (response.status ≡ status_of_refusal question answer.status)
-    × (response.body.items ≡ answer.bytes.items))
+-- a question of any other: it is answered of the table
+pub record IsAnswered (question : SiteQuestion) (table : Table) (request : Request (List ℕ)) (more : List Header) (response : Response) : Type 0 where
+  pub unknown : ¬ HasField (codes "if-none-match") (tag_of table) request
+  pub told : Answer
+  pub whole : IsWholeAnswer question table told
+  pub answer : IsResponse (status_of_answer question told.status)
+      (tag_field table ∷ type_field (type_of_answer question told.status) ∷ more) told.bytes.items response
 
--- a piece that is sent is accepted, or known, and only then is the status 204, or it is refused
+-- the answer to a question has the tag of the table, and then these fields more
+abbrev pub IsAsked : SiteQuestion → Table → Request (List ℕ) → List Header → Response → Type 0
+IsAsked question table request more response =
+    IsUnchanged table request more response ⊎ IsAnswered question table request more response
+
+-- One who may not write hands something in: nothing changes.
+pub record IsUnauthorized (old : SiteCore) (request : Request (List ℕ)) (response : Response) (new : SiteCore) : Type 0 where
+  pub barred : ¬ MayWrite old.token request
+  pub same : IsSame old new
+  pub answer : IsResponse 401 (token_field ∷ []) [] response
+
+-- One who may write hands in a body that is encoded: nothing changes.
+pub record IsNotDecoded (old : SiteCore) (request : Request (List ℕ)) (response : Response) (new : SiteCore) : Type 0 where
+  pub lets : MayWrite old.token request
+  pub encoded : HasEncodedBody request
+  pub same : IsSame old new
+  pub answer : IsResponse 415 (codings_field ∷ []) [] response
+
+-- A piece is accepted, or known.
+pub record IsAcknowledged (piece : Piece) (old : SiteCore) (request : Request (List ℕ)) (response : Response) (new : SiteCore) : Type 0 where
+  pub lets : MayWrite old.token request
+  pub plain : ¬ HasEncodedBody request
+  pub done : IsPieceTaken piece old new ⊎ IsTagKnown piece old new
+  pub answer : IsResponse 204 [] [] response
+
+-- A piece is refused: nothing changes but that older pieces may be given up.
+pub record IsTurnedDown (piece : Piece) (old : SiteCore) (request : Request (List ℕ)) (response : Response) (new : SiteCore) : Type 0 where
+  pub lets : MayWrite old.token request
+  pub plain : ¬ HasEncodedBody request
+  pub same : IsSpared old new
+  pub why : Refusal
+  pub refused : IsLeftOut piece why
+  pub answer : HasHead (status_of_refusal why.kind) (type_field plain_text ∷ []) response
+
+-- something is handed in
 abbrev pub IsHandedToSite : PieceKind → SiteCore → Request (List ℕ) → Response → SiteCore → Type 0
 IsHandedToSite hand old request response new =
-    ((IsPieceTaken (piece_of_bytes hand (body_of request)) old new ⊎ IsTagKnown (piece_of_bytes hand (body_of request)) old new)
-    × (response.status ≡ 204))
-    ⊎ (IsSpared old new × (response.status ≢ 204))
+    let piece = piece_of_bytes hand (body_of request) in
+    (IsUnauthorized old request response new ⊎ IsNotDecoded old request response new)
+    ⊎ (IsAcknowledged piece old request response new ⊎ IsTurnedDown piece old request response new)
 
+-- Which status, which fields and which body come for which request.
 abbrev pub AnswersAs : Route → SiteCore → Request (List ℕ) → Response → SiteCore → Type 0
 AnswersAs (Ask question) old request response new =
-    IsSame old new × IsAsked question old.board request response × IsNamedPlace question old.pieces response
+    IsSame old new × IsAsked question old.board request (place_fields question old.pieces) response
 AnswersAs Pieces old request response new = IsSame old new × AnswersWithPieces old.pieces request response
 AnswersAs (Take hand) old request response new = IsHandedToSite hand old request response new
-AnswersAs Health old request response new = IsSame old new × (response.status ≡ 200)
-AnswersAs Metrics old request response new = IsSame old new × (response.status ≡ 200)
-AnswersAs Page old request response new = IsSame old new × (response.status ≡ 200)
-AnswersAs OtherMethod old request response new = IsSame old new × (response.status ≡ 405)
-AnswersAs Unknown old request response new = IsSame old new × (response.status ≡ 404)
+AnswersAs Health old request response new =
+    IsSame old new × IsResponse 200 (type_field plain_text ∷ []) (codes "up\n") response
+AnswersAs Metrics old request response new =
+    IsSame old new × HasHead 200 (type_field (codes "text/plain; version=0.0.4") ∷ []) response
+AnswersAs Page old request response new =
+    IsSame old new × HasHead 200 (type_field (codes "text/html; charset=utf-8") ∷ []) response
+    × IsPage response.body.items
+AnswersAs OtherMethod old request response new = IsSame old new × IsResponse 405 (methods_field ∷ []) [] response
+AnswersAs Unknown old request response new = IsSame old new × IsResponse 404 [] [] response
 
 -- for a piece that is sent older pieces may be given up, and for no other request
 abbrev pub LeavesUnanswered : Route → SiteCore → SiteCore → Type 0
@@ -112,7 +153,7 @@ LeavesUnanswered route old new = IsSame old new
 abbrev pub AnswersRequest : SiteCore → Request (List ℕ) → Response → SiteCore → Type 0
 AnswersRequest old request response new =
     (route : Route) × IsRoute route request
-    × (AnswersAs route old request response new ⊎ (LeavesUnanswered route old new × (response.status ≡ 507)))
+    × (AnswersAs route old request response new ⊎ (LeavesUnanswered route old new × IsResponse 507 [] [] response))
 
 -- a piece of another site is taken, or nothing changes
 abbrev pub GathersPiece : Piece → SiteCore → SiteCore → Type 0

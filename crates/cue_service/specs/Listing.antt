@@ -1,17 +1,16 @@
 -- The pieces that a site accepted since its start, and what it answers to those who ask for them.
-use Rattle.std.specs.Prelude.{◌≡◌, ◌⊎◌, ◌<◌, ◌≤◌, ◌^◌, ℕ, List, [], ◌∷◌, ◌++◌, length, drop, map, codes}
+use Rattle.std.specs.Prelude.{◌≡◌, ◌⊎◌, ◌<◌, ◌≤◌, ◌^◌, ℕ, List, [], ◌∷◌, ◌++◌, length, drop, map}
 use Rattle.cue_lattice.specs.World.{Piece}
-use Rattle.cue_answer.specs.declared.question.SiteQuestion.{SiteQuestion}
-use Rattle.cue_answer.specs.declared.question.SiteQuestion.TheVariants as questions
 use Rattle.http.specs.declared.request.Request.{Request}
 use Rattle.http_server.specs.declared.response.Response.{Response}
-use Rattle.http_server.specs.Response.{fields_of}
+use Rattle.http_server.specs.Response.{IsResponse}
 use Rattle.cue_journal.specs.Blocks.{recovered_pieces}
 use Rattle.cue_pieces.specs.Cursors.{cursor_text, IsCursor}
-use Rattle.cue_pieces.specs.Listed.{Listed, IsListOfPieces, KeepsPieces, next_of}
+use Rattle.cue_pieces.specs.Listed.{Listed, IsListOfPieces, KeepsPieces}
 use Rattle.cue_pieces.specs.Lists.{blocks}
 use Rattle.cue_service.specs.Entries.{entry_of}
 use Rattle.cue_service.specs.Requests.{AsksBehind}
+use Rattle.cue_service.specs.Statuses.{HasHead, type_field, place_field, plain_bytes}
 
 -- the pieces that were accepted since the start are just these, of which the kept ones are a suffix
 abbrev pub AreListed : List Piece → Listed → Type 0
@@ -22,17 +21,6 @@ abbrev pub with_entry : Listed → List ℕ → Listed
 with_entry pieces entry =
     record { run = pieces.run; given_up = pieces.given_up; kept = pieces.kept ++ entry ∷ [] }
 
--- the response names the place behind all pieces
-abbrev pub NamesNext : Listed → Response → Type 0
-NamesNext pieces response =
-    (before : List (List ℕ × List ℕ))
-    × (fields_of response ≡ before ++ (codes "cuestore-pieces", cursor_text pieces.run (next_of pieces)) ∷ [])
-
--- so does the one with the state
-abbrev pub IsNamedPlace : SiteQuestion → Listed → Response → Type 0
-IsNamedPlace questions.State pieces response = NamesNext pieces response
-IsNamedPlace question pieces response = Unit {0}
-
 -- The answer is the blocks of all pieces behind the first so many, in order, all of which are kept; and
 -- these are what is read of it.
 pub record AnswersPieces (pieces : Listed) (request : Request (List ℕ)) (response : Response) : Type 0 where
@@ -41,11 +29,10 @@ pub record AnswersPieces (pieces : Listed) (request : Request (List ℕ)) (respo
   pub asks : AsksBehind text request
   pub cursor : IsCursor text pieces.run count
   pub kept : KeepsPieces pieces pieces.run count
-  pub status : response.status ≡ 200
+  pub head : HasHead 200 (type_field plain_bytes ∷ place_field pieces ∷ []) response
   pub told : (accepted : List Piece) → AreListed accepted pieces → (count ≤ length accepted)
       × (response.body.items ≡ blocks (map entry_of (drop count accepted)))
       × (recovered_pieces response.body.items ≡ map entry_of (drop count accepted))
-  pub names : NamesNext pieces response
 
 -- not all of those behind the place are kept, or it is of another run
 pub record IsGone (pieces : Listed) (request : Request (List ℕ)) (response : Response) : Type 0 where
@@ -55,12 +42,12 @@ pub record IsGone (pieces : Listed) (request : Request (List ℕ)) (response : R
   pub asks : AsksBehind text request
   pub cursor : IsCursor text run count
   pub not_kept : ¬ KeepsPieces pieces run count
-  pub status : response.status ≡ 410
+  pub answer : IsResponse 410 [] [] response
 
 -- the request names no place that a site ever names
 pub record IsNoCursor (request : Request (List ℕ)) (response : Response) : Type 0 where
   pub none : (run count : ℕ) → run < 2 ^ 64 → count < 2 ^ 64 → ¬ AsksBehind (cursor_text run count) request
-  pub status : response.status ≡ 400
+  pub answer : IsResponse 400 [] [] response
 
 abbrev pub AnswersWithPieces : Listed → Request (List ℕ) → Response → Type 0
 AnswersWithPieces pieces request response =

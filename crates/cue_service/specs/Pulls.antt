@@ -1,14 +1,11 @@
 -- What a pull that went well brings: all that the pieces of the other site say.
-use Rattle.std.specs.Prelude.{◌≡◌, ◌⊎◌, ◌≤◌, ◌+◌, ◌^◌, List, length}
+use Rattle.std.specs.Prelude.{List}
 use Rattle.cue_lattice.specs.Path.{Path}
 use Rattle.cue_lattice.specs.Question.{Question}
 use Rattle.cue_lattice.specs.World.{Piece, IsInSet, IsUnified, piece_refuses}
-use Rattle.cue_lattice.specs.declared.refusal.Kind.TheVariants as kinds
-use Rattle.cue_lattice.specs.declared.refusal.Refusal.{Refusal}
 use Rattle.cue_replica.specs.Accepted.{IsAcceptable}
 use Rattle.cue_replica.specs.Language.{Table, language}
 use Rattle.cue_service.specs.declared.desk.SiteCore.{SiteCore}
-use Rattle.cue_service.specs.Answering.{bytes_in}
 use Rattle.cue_service.specs.Listing.{AreListed}
 
 -- the table refuses all that the piece does
@@ -29,11 +26,3 @@ pub record IsOfListed (desk : SiteCore) : Type 0 where
   pub held : IsUnified language desk.board pieces
   pub among : (piece : Piece) → IsInSet accepted piece → IsInSet pieces piece
   pub listed : AreListed accepted desk.pieces
-
--- memory ran out, or no site accepts the piece
-abbrev pub IsRefusalOf : Piece → Refusal → Type 0
-IsRefusalOf piece why = (why.kind ≡ kinds.Memory) ⊎ (IsAcceptable piece → ⊥)
-
--- or it is too long for a journal
-abbrev pub IsLeftOut : Piece → Refusal → Type 0
-IsLeftOut piece why = IsRefusalOf piece why ⊎ (2 ^ 32 ≤ length (bytes_in piece) + 1)

@@ -88,3 +88,8 @@ AsksBehind place request = query_of request ≡ Some (codes "after=" ++ place)
 abbrev pub HasField : List ℕ → List ℕ → Request (List ℕ) → Type 0
 HasField name value request =
     (field : FieldValue) × (get (head_of request).headers name ≡ Some field) × (field.bytes ≡ value)
+
+-- the body of the request is encoded
+abbrev pub HasEncodedBody : Request (List ℕ) → Type 0
+HasEncodedBody request =
+    (field : FieldValue) × (get (head_of request).headers (codes "content-encoding") ≡ Some field)

@@ -3,7 +3,7 @@ ghost use Rattle.cue_lattice.specs.World.{piece_refuses};
 ghost use Rattle.cue_replica.specs.Accepted.{IsAcceptable};
 ghost use Rattle.cue_replica.specs.Language.{language};
 ghost use Rattle.cue_replica.specs.Replica.{AddsRefusals};
-ghost use Rattle.cue_service.specs.Pulls.{IsRefusalOf};
+ghost use Rattle.cue_service.specs.Refusals.{IsRefusalOf};
 ghost use Rattle.cue_service.specs.Requests.{piece_of_bytes};
 ghost use Rattle.cue_service.specs.Tags.{tag_of};
 
@@ -26,10 +26,6 @@ pub struct CachedTable {
     table: Replica,
     kept: AnswerCache,
     alloc: Global,
-    /// Another number for each change of the tag that was looked for.
-    edition: u64,
-    /// The tag of that edition.
-    seen: Option<HeaderValue>,
     /// Another number for each time that the table was put in or added to.
     changes: u64,
 }
@@ -60,8 +56,6 @@ impl CachedTable {
             table,
             kept: AnswerCache::none(),
             alloc,
-            edition: 0,
-            seen: None,
             changes: 0,
         }
     }
@@ -104,23 +98,6 @@ impl CachedTable {
         let shared = tag.clone()?;
         self.kept.keep_tag(tag);
         Ok(shared)
-    }
-
-    /// A number that is another one as soon as the tag is. Where memory is wanting it stays.
-    pub(crate) fn edition(&mut self) -> u64
-        ensures same { self.new ≡ self.old }
-    {
-        if let Ok(tag) = self.tag() {
-            let known = match &self.seen {
-                Some(seen) => *seen == tag,
-                None => false,
-            };
-            if !known {
-                self.edition = self.edition.wrapping_add(1);
-                self.seen = Some(tag);
-            }
-        }
-        self.edition
     }
 
     /// Accepts a piece.

@@ -1,21 +1,27 @@
-ghost use Rattle.std.specs.Prelude.{◌≡◌, ◌≢◌, ◌⊎◌, ◌<◌, ◌^◌, ◌++◌, [], ◌∷◌, ℕ, List, length, codes, true, false, IsTrue, IfOk, IfErr, IfSome, IfNone, OnOk, OnErr};
+ghost use Rattle.std.specs.Prelude.{◌≡◌, ◌⊎◌, ◌<◌, ◌^◌, ◌++◌, ◌↔◌, [], ◌∷◌, ℕ, List, length, codes, IsTrue, IfOk, IfErr, IfSome, IfNone, OnOk, OnErr};
 ghost use Rattle.cue_journal.specs.Blocks.{recovered_pieces};
 ghost use Rattle.cue_journal.specs.Settled.{IsBatch};
 ghost use Rattle.cue_journal.specs.Batches.{batch_bytes};
+ghost use Rattle.cue_service.specs.Editions.{IsEdition};
 ghost use Rattle.cue_service.specs.Entries.{entry_of};
 ghost use Rattle.cue_service.specs.Listing.{with_entry};
 ghost use Rattle.http_server.specs.Response.{IsBlank};
 ghost use Rattle.cue_lattice.specs.World.{state};
-ghost use Rattle.cue_service.specs.Pulls.{CoversPiece, IsLeftOut, IsRefusalOf};
-ghost use Rattle.cue_service.specs.Requests.{IsRoute, HasField, piece_of_bytes};
+ghost use Rattle.cue_service.specs.Pulls.{CoversPiece};
+ghost use Rattle.cue_service.specs.Refusals.{IsLeftOut, IsRefusalOf};
+ghost use Rattle.cue_service.specs.Requests.{IsRoute, HasEncodedBody, HasField, piece_of_bytes};
+ghost use Rattle.cue_service.specs.Statuses.{status_of_answer, type_of_answer};
 ghost use Rattle.cue_service.specs.Tags.{tag_of};
-ghost use Rattle.cue_service.specs.Answering.{AnswersRequest, AnswersAs, IsAsked, IsHandedToSite, IsPieceTaken, IsTagKnown, IsSame, IsSpared, LeavesUnanswered, GathersState, BringsState, status_of_refusal};
+ghost use Rattle.cue_service.specs.Answering.{AnswersRequest, AnswersAs, IsAsked, IsHandedToSite, IsPieceTaken, IsTagKnown, IsSame, IsSpared, LeavesUnanswered, GathersState, BringsState};
 
+use crate::access::{AccessToken, may_write};
 use crate::board::CachedTable;
+use crate::editions::Editions;
 use crate::entries::submit_piece;
 use crate::listed::{answer_pieces, name_with_state};
 use crate::page::page;
-use crate::refusal::{refusal_code, refusal_line};
+use crate::refusal::answer_refusal;
+use crate::responses::{answer_body, answer_field, answer_status, answer_tagged, answer_unchanged};
 use crate::route::{PieceKind, Route, route_of};
 use crate::standing::Standing;
 use bytes::Bytes;
@@ -28,12 +34,6 @@ use http::{HeaderValue, Request, StatusCode, header};
 use http_server::Response;
 use std::alloc::Global;
 
-/// The word that a request has to bear that hands something in.
-#[derive(Drop)]
-pub struct AccessToken {
-    pub bytes: Vec<u8>,
-}
-
 /// A site's table, the entries that wait to reach the disk, the pieces that it accepted since its
 /// start, and who may write.
 #[derive(Drop)]
@@ -44,6 +44,7 @@ pub struct SiteCore {
     pub(crate) pieces: Pieces,
     pub(crate) token: Option<AccessToken>,
     pub(crate) standing: Standing,
+    pub(crate) editions: Editions,
 }
 
 /// The first byte of an entry.
@@ -92,14 +93,6 @@ fn queue(
     Ok(())
 }
 
-fn whole(text: String, kind: HeaderValue, response: &mut Response) -> Result<(), Memory>
-    ensures { response.new.status ≡ response.old.status }
-{
-    response.add_header(header::CONTENT_TYPE, kind)?;
-    response.body.push(Bytes::from_string(text)?)?;
-    Ok(())
-}
-
 impl SiteCore {
     /// One that accepted nothing in this run, whose number no other run has.
     pub fn new(
@@ -112,6 +105,7 @@ impl SiteCore {
         ensures board { result.board ≡ board }
         ensures pieces { result.pieces ≡ record { run = run; given_up = 0; kept = [] } }
         ensures empty { batch_bytes result.batch ≡ [] }
+        ensures token { result.token ≡ token }
     {
         SiteCore {
             alloc,
@@ -120,6 +114,7 @@ impl SiteCore {
             pieces: Pieces::new(alloc, run),
             token,
             standing,
+            editions: Editions::new(),
         }
     }
 
@@ -133,7 +128,7 @@ impl SiteCore {
             return;
         }
         response.clear();
-        response.status = StatusCode::INSUFFICIENT_STORAGE;
+        answer_status(response, StatusCode::INSUFFICIENT_STORAGE);
         self.standing.refuse(Kind::Memory, 0);
     }
 
@@ -158,25 +153,43 @@ impl SiteCore {
                 Ok(())
             }
             Route::Take(hand) => self.accept_request(hand, request, response),
-            Route::Health => Ok(response.body.push(Bytes::from_static(b"up\n"))?),
+            Route::Health => {
+                answer_body(
+                    response,
+                    StatusCode::OK,
+                    PLAIN_TEXT,
+                    Bytes::from_static(b"up\n"),
+                )
+            }
             Route::Metrics => {
                 let text = self.standing.metrics(self.alloc, &mut self.board)?;
-                let kind = HeaderValue::from_static("text/plain; version=0.0.4");
-                whole(text, kind, response)
+                let body = Bytes::from_string(text)?;
+                answer_body(response, StatusCode::OK, "text/plain; version=0.0.4", body)
             }
             Route::Page => {
                 let text = page(self.alloc, &mut self.board, &self.standing)?;
-                let kind = HeaderValue::from_static("text/html; charset=utf-8");
-                whole(text, kind, response)
+                let body = Bytes::from_string(text)?;
+                answer_body(response, StatusCode::OK, "text/html; charset=utf-8", body)
             }
             Route::OtherMethod => {
-                response.status = StatusCode::METHOD_NOT_ALLOWED;
-                Ok(())
+                let status = StatusCode::METHOD_NOT_ALLOWED;
+                answer_field(response, status, header::ALLOW, "GET, HEAD, POST")
             }
             Route::Unknown => {
-                response.status = StatusCode::NOT_FOUND;
+                answer_status(response, StatusCode::NOT_FOUND);
                 Ok(())
             }
+        }
+    }
+
+    /// The number that goes with the tag of the table. Where memory is wanting for the tag it stays.
+    pub(crate) fn edition(&mut self) -> u64
+        ensures same { IsSame self.old self.new }
+        ensures edition { IsEdition self.old.editions (tag_of self.old.board) result self.new.editions }
+    {
+        match self.board.tag() {
+            Ok(tag) => self.editions.number_of(tag),
+            Err(_) => self.editions.number,
         }
     }
 
@@ -191,23 +204,24 @@ impl SiteCore {
         ensures ok { OnOk result (IsHandedToSite hand self.old request.now response.new self.new) }
         ensures err { OnErr result (IsSpared self.old self.new) }
     {
-        if !self.may_write(request) {
-            response.status = StatusCode::UNAUTHORIZED;
-            return Ok(());
+        if !may_write(&self.token, request) {
+            let status = StatusCode::UNAUTHORIZED;
+            return answer_field(response, status, header::WWW_AUTHENTICATE, "Bearer");
+        }
+        if is_encoded(request) {
+            let status = StatusCode::UNSUPPORTED_MEDIA_TYPE;
+            return answer_field(response, status, header::ACCEPT_ENCODING, "identity");
         }
         let bytes = request.body().as_slice();
         match self.take_in(hand, bytes) {
             Ok(()) => {
                 self.standing.note_taken();
-                response.status = StatusCode::NO_CONTENT;
+                answer_status(response, StatusCode::NO_CONTENT);
                 Ok(())
             }
             Err(why) => {
                 self.standing.refuse(why.kind, why.place);
-                response.status = refusal_code(why.kind);
-                let line = refusal_line(self.alloc, why, bytes)?;
-                response.body.push(Bytes::from_string(line)?)?;
-                Ok(())
+                answer_refusal(self.alloc, why, bytes, response)
             }
         }
     }
@@ -221,6 +235,7 @@ impl SiteCore {
     fn take_in(&mut self, hand: PieceKind, bytes: &[u8]) -> Result<(), Refusal>
         ensures ok { OnOk result (IsPieceTaken (piece_of_bytes hand bytes.now) self.old self.new
             ⊎ IsTagKnown (piece_of_bytes hand bytes.now) self.old self.new) }
+        ensures left_out { IfErr result (IsLeftOut (piece_of_bytes hand bytes.now)) }
         ensures err { OnErr result (IsSpared self.old self.new) }
     {
         match self.accept_new(hand, bytes) {
@@ -240,6 +255,7 @@ impl SiteCore {
     fn accept_new(&mut self, hand: PieceKind, bytes: &[u8]) -> Result<(), Refusal>
         ensures ok { OnOk result (IsPieceTaken (piece_of_bytes hand bytes.now) self.old self.new
             ⊎ IsTagKnown (piece_of_bytes hand bytes.now) self.old self.new) }
+        ensures left_out { IfErr result (IsLeftOut (piece_of_bytes hand bytes.now)) }
         ensures err { OnErr result (IsSame self.old self.new) }
     {
         if self.contains_piece(hand, bytes)? {
@@ -254,7 +270,8 @@ impl SiteCore {
     ///
     /// `Memory`.
     fn contains_piece(&self, hand: PieceKind, bytes: &[u8]) -> Result<bool, Refusal>
-        ensures { IfOk result (λ has. IsTrue has → IsTagKnown (piece_of_bytes hand bytes.now) self.now self.now) }
+        ensures known { IfOk result (λ has. IsTrue has → IsTagKnown (piece_of_bytes hand bytes.now) self.now self.now) }
+        ensures left_out { IfErr result (IsLeftOut (piece_of_bytes hand bytes.now)) }
     {
         if !self
             .pieces
@@ -330,20 +347,6 @@ impl SiteCore {
         self.pieces.trim();
         Ok(true)
     }
-
-    /// Whether the request bears the word, where one is wanted.
-    fn may_write(&self, request: &Request<Bytes>) -> bool {
-        let Some(token) = &self.token else {
-            return true;
-        };
-        match request.headers().get(header::AUTHORIZATION) {
-            Some(value) => match value.as_bytes().split_at_checked(BEARER.len()) {
-                Some((scheme, word)) => scheme == BEARER && same_bytes(word, &token.bytes),
-                None => false,
-            },
-            None => false,
-        }
-    }
 }
 
 /// Answers a question, unless the one who asks has the table.
@@ -354,21 +357,17 @@ fn answer_question(
     response: &mut Response,
 ) -> Result<(), Memory>
     requires { IsBlank response.old }
-    ensures asked { OnOk result (IsAsked question board.old request.now response.new) }
+    ensures asked { OnOk result (IsAsked question board.old request.now [] response.new) }
     ensures same { board.new ≡ board.old }
 {
     let tag = board.tag()?;
-    let known = is_known(request, tag.as_bytes());
-    response.add_header(header::ETAG, tag)?;
-    if known {
-        response.status = StatusCode::NOT_MODIFIED;
-        return Ok(());
+    if is_known(request, tag.as_bytes()) {
+        return answer_unchanged(response, tag);
     }
     let told = board.answer_to(question)?;
-    response.add_header(header::CONTENT_TYPE, content_type(question, told.status))?;
-    response.status = status_code(question, told.status);
-    response.body.push(told.bytes)?;
-    Ok(())
+    let status = status_code(question, told.status);
+    let kind = content_type(question, told.status);
+    answer_tagged(response, status, tag, kind, told.bytes)
 }
 
 /// The site with these state bytes, where they bring something.
@@ -385,29 +384,35 @@ fn unify_bytes(alloc: Global, site: &Replica, bytes: &[u8]) -> Result<Option<Rep
     Ok(Some(next))
 }
 
-const BEARER: &[u8] = b"Bearer ";
+const PLAIN_TEXT: &str = "text/plain; charset=utf-8";
 
-/// Whether both are the same bytes. The time that it takes tells nothing but whether they are as
-/// long as each other.
-fn same_bytes(a: &[u8], b: &[u8]) -> bool {
-    let mut same = a.len() == b.len();
-    for (x, y) in a.iter().zip(b) {
-        same &= x == y;
-    }
-    same
-}
-
-fn is_known(request: &Request<Bytes>, tag: &[u8]) -> bool
-    ensures { IsTrue result → HasField (codes "if-none-match") tag.now request.now }
+/// Whether the body of a request is encoded.
+fn is_encoded(request: &Request<Bytes>) -> bool
+    ensures { IsTrue result ↔ HasEncodedBody request.now }
 {
-    match request.headers().get("if-none-match") {
-        Some(known) => known.as_bytes() == tag,
+    match request.headers().get(header::CONTENT_ENCODING) {
+        Some(_) => true,
         None => false,
     }
 }
 
+fn is_known(request: &Request<Bytes>, tag: &[u8]) -> bool
+    ensures { IsTrue result ↔ HasField (codes "if-none-match") tag.now request.now }
+{
+    match request.headers().get("if-none-match") {
+        Some(known) => is_tag(known.as_bytes(), tag),
+        None => false,
+    }
+}
+
+fn is_tag(value: &[u8], tag: &[u8]) -> bool
+    ensures { IsTrue result ↔ (value.now ≡ tag.now) }
+{
+    value == tag
+}
+
 fn status_code(question: SiteQuestion, status: Status) -> StatusCode
-    ensures { result ≡ status_of_refusal question status }
+    ensures { result ≡ status_of_answer question status }
 {
     match (question, status) {
         (SiteQuestion::Export, Status::Conflicts) => StatusCode::CONFLICT,
@@ -416,10 +421,12 @@ fn status_code(question: SiteQuestion, status: Status) -> StatusCode
     }
 }
 
-fn content_type(question: SiteQuestion, status: Status) -> HeaderValue {
+fn content_type(question: SiteQuestion, status: Status) -> HeaderValue
+    ensures { result.bytes ≡ type_of_answer question status }
+{
     match (question, status) {
         (SiteQuestion::Export, Status::Done) => HeaderValue::from_static("application/json"),
         (SiteQuestion::State, _) => HeaderValue::from_static("application/octet-stream"),
-        _ => HeaderValue::from_static("text/plain; charset=utf-8"),
+        _ => HeaderValue::from_static(PLAIN_TEXT),
     }
 }

@@ -4,7 +4,7 @@ ghost use Rattle.cue_replica.specs.Accepted.{IsAcceptable, IsOfPieces};
 ghost use Rattle.cue_replica.specs.Language.{language};
 ghost use Rattle.cue_replica.specs.Replica.{AddsRefusals};
 ghost use Rattle.cue_service.specs.Entries.{piece_of_entry, pieces_of};
-ghost use Rattle.cue_service.specs.Pulls.{IsRefusalOf};
+ghost use Rattle.cue_service.specs.Refusals.{IsRefusalOf};
 ghost use Rattle.cue_service.specs.Requests.{piece_of_bytes};
 
 use crate::route::PieceKind;

@@ -5,7 +5,8 @@ ghost use Rattle.cue_replica.specs.Accepted.{IsAcceptable};
 ghost use Rattle.cue_journal.specs.Blocks.{recovered_pieces};
 ghost use Rattle.cue_service.specs.Answering.{IsSame, GathersPiece, GathersPieces};
 ghost use Rattle.cue_service.specs.Entries.{piece_of_entry, pieces_of};
-ghost use Rattle.cue_service.specs.Pulls.{CoversPiece, CoversAll, IsLeftOut, IsOfListed};
+ghost use Rattle.cue_service.specs.Pulls.{CoversPiece, CoversAll, IsOfListed};
+ghost use Rattle.cue_service.specs.Refusals.{IsLeftOut};
 
 use crate::desk::SiteCore;
 use crate::entries::{parts_of, submit_piece};

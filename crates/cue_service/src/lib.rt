@@ -2,16 +2,21 @@
 //! the disk, and tells after each round whether what it answered stands.
 #![tactic(auto)]
 
+mod access;
 mod board;
 mod desk;
+mod editions;
 mod entries;
+mod escapes;
 mod gathering;
 mod kept;
 mod laws;
 mod listed;
+mod markup;
 mod metrics;
 mod page;
 mod refusal;
+mod responses;
 mod route;
 mod shown;
 mod site;
@@ -19,7 +24,8 @@ mod snapshots;
 mod standing;
 mod tag;
 
-pub use desk::{AccessToken, SiteCore};
+pub use access::AccessToken;
+pub use desk::SiteCore;
 pub use entries::{add_entries, snapshot_in};
 pub use laws::{a_round_keeps_its_promise, calls_are_events};
 pub use route::{PieceKind, Route};

@@ -1,22 +1,23 @@
-ghost use Rattle.std.specs.Prelude.{◌≡◌, ◌≢◌, ◌<◌, ◌^◌, ◌++◌, [], ◌∷◌, ℕ, List, codes, IfSome, IfNone, OnOk};
+ghost use Rattle.std.specs.Prelude.{◌≡◌, ◌<◌, ◌^◌, ◌++◌, [], ◌∷◌, ℕ, List, IfSome, IfNone, OnOk};
 ghost use Rattle.cue_pieces.specs.Cursors.{IsCursor, cursor_text};
-ghost use Rattle.cue_pieces.specs.Listed.{next_of};
 ghost use Rattle.http_server.specs.Response.{IsBlank, fields_of};
 ghost use Rattle.cue_service.specs.Requests.{AsksBehind};
-ghost use Rattle.cue_service.specs.Listing.{IsNamedPlace, AnswersWithPieces};
+ghost use Rattle.cue_service.specs.Listing.{AnswersWithPieces};
+ghost use Rattle.cue_service.specs.Statuses.{place_field, place_fields};
 
+use crate::responses::{answer_body, answer_status};
 use bytes::Bytes;
 use cue_answer::SiteQuestion;
 use cue_lattice::Memory;
 use cue_pieces::{PieceCursor, Pieces};
-use http::{HeaderName, HeaderValue, Request, StatusCode, header};
+use http::{HeaderName, HeaderValue, Request, StatusCode};
 use http_server::Response;
 use std::alloc::Global;
 
 /// Names in a response the place behind all pieces that were accepted.
 fn name_cursor(alloc: Global, pieces: &Pieces, response: &mut Response) -> Result<(), Memory>
     ensures named { OnOk result (fields_of response.new ≡ fields_of response.old
-        ++ (codes "cuestore-pieces", cursor_text pieces.now.run (next_of pieces.now)) ∷ []) }
+        ++ place_field pieces.now ∷ []) }
     ensures status { response.new.status ≡ response.old.status }
     ensures body { response.new.body ≡ response.old.body }
 {
@@ -32,7 +33,8 @@ pub(crate) fn name_with_state(
     pieces: &Pieces,
     response: &mut Response,
 ) -> Result<(), Memory>
-    ensures named { OnOk result (IsNamedPlace question pieces.now response.new) }
+    ensures named { OnOk result (fields_of response.new
+        ≡ fields_of response.old ++ place_fields question pieces.now) }
     ensures status { response.new.status ≡ response.old.status }
     ensures body { response.new.body ≡ response.old.body }
 {
@@ -66,18 +68,17 @@ pub(crate) fn answer_pieces(
     ensures { OnOk result (AnswersWithPieces pieces.now request.now response.new) }
 {
     let Some(cursor) = cursor_in(request) else {
-        response.status = StatusCode::BAD_REQUEST;
+        answer_status(response, StatusCode::BAD_REQUEST);
         return Ok(());
     };
     let body = match pieces.blocks_behind(cursor)? {
         Some(body) => body,
         None => {
-            response.status = StatusCode::GONE;
+            answer_status(response, StatusCode::GONE);
             return Ok(());
         }
     };
-    let kind = HeaderValue::from_static("application/octet-stream");
-    response.add_header(header::CONTENT_TYPE, kind)?;
-    response.body.push(Bytes::from_vec(body)?)?;
+    let kind = "application/octet-stream";
+    answer_body(response, StatusCode::OK, kind, Bytes::from_vec(body)?)?;
     name_cursor(alloc, pieces, response)
 }

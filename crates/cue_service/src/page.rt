@@ -1,16 +1,12 @@
-ghost use Rattle.std.specs.Prelude.{◌≡◌};
+ghost use Rattle.std.specs.Prelude.{◌≡◌, IfOk, OnOk, string_bytes};
+ghost use Rattle.cue_service.specs.Pages.{IsPage};
 
 use crate::board::CachedTable;
-use crate::shown::is_hidden;
+use crate::markup::{Markup, add_markup, add_text};
 use crate::standing::{SourceStanding, Standing};
 use cue_answer::{SiteQuestion, Status};
 use cue_lattice::Memory;
 use std::alloc::Global;
-use std::fmt::Write;
-use std::str;
-
-const HEAD: &str =
-    "<!doctype html>\n<html lang=\"en\"><head><meta charset=\"utf-8\"><title>cuestored</title>\n<style>body{font-family:sans-serif;margin:2em auto;max-width:60em;padding:0 1em}pre{background:#f4f4f4;padding:1em;overflow:auto}.bad{background:#fde8e8}.open{background:#fdf5dd}td{padding:0 1em 0 0}</style></head><body>\n<h1>cuestored</h1>\n";
 
 /// One page for a person: what conflicts and what is incomplete, the printed text, and the other
 /// sites.
@@ -19,23 +15,25 @@ pub(crate) fn page(
     board: &mut CachedTable,
     standing: &Standing,
 ) -> Result<String, Memory>
+    ensures page { IfOk result (λ text. IsPage (string_bytes text)) }
     ensures same { board.new ≡ board.old }
 {
-    let mut text = String::from_str(alloc, HEAD)?;
+    let mut text = String::new(alloc);
+    add_markup(&mut text, Markup::Head)?;
     add_faults(&mut text, board)?;
     let print = board.answer_to(SiteQuestion::Print)?;
-    text.push_str("<h2>What is known</h2>\n<pre>")?;
-    escape(&mut text, print.bytes.as_slice())?;
-    text.push_str("</pre>\n<h2>Peers</h2>\n")?;
-    add_peers(&mut text, standing)?;
-    text.push_str(
-        "<p><a href=\"/export\">export</a> <a href=\"/report\">report</a> <a href=\"/print\">text</a> <a href=\"/metrics\">metrics</a></p>\n</body></html>\n",
-    )?;
+    add_markup(&mut text, Markup::Known)?;
+    add_text(&mut text, print.bytes.as_slice())?;
+    add_markup(&mut text, Markup::EndOfLines)?;
+    add_markup(&mut text, Markup::Peers)?;
+    add_peers(alloc, &mut text, standing)?;
+    add_markup(&mut text, Markup::Foot)?;
     Ok(text)
 }
 
 /// What conflicts, and what is incomplete.
 fn add_faults(text: &mut String, board: &mut CachedTable) -> Result<(), Memory>
+    ensures page { OnOk result (IsPage (string_bytes text.old) → IsPage (string_bytes text.new)) }
     ensures same { board.new ≡ board.old }
 {
     let export = board.answer_to(SiteQuestion::Export)?;
@@ -45,66 +43,67 @@ fn add_faults(text: &mut String, board: &mut CachedTable) -> Result<(), Memory>
         _ => 0,
     };
     let report_bytes = report.bytes.as_slice();
+    if report_bytes.is_empty() {
+        return add_markup(text, Markup::NoFaults);
+    }
     let (first, rest) = report_bytes.split_at(conflicts.min(report_bytes.len()));
-    if !first.is_empty() {
-        text.push_str("<h2>Conflicts</h2>\n<pre class=\"bad\">")?;
-        escape(text, first)?;
-        text.push_str("</pre>\n")?;
-    }
-    if !rest.is_empty() {
-        text.push_str("<h2>Incomplete</h2>\n<pre class=\"open\">")?;
-        escape(text, rest)?;
-        text.push_str("</pre>\n")?;
-    }
-    if report.bytes.is_empty() {
-        text.push_str("<p>No conflicts, and nothing is incomplete.</p>\n")?;
-    }
-    Ok(())
+    add_lines(text, Markup::Conflicts, first)?;
+    add_lines(text, Markup::Incomplete, rest)
 }
 
-fn add_peers(text: &mut String, standing: &Standing) -> Result<(), Memory> {
+/// Lines behind a heading, where there are any.
+fn add_lines(text: &mut String, heading: Markup, lines: &[u8]) -> Result<(), Memory>
+    ensures { OnOk result (IsPage (string_bytes text.old) → IsPage (string_bytes text.new)) }
+{
+    if lines.is_empty() {
+        return Ok(());
+    }
+    add_markup(text, heading)?;
+    add_text(text, lines)?;
+    add_markup(text, Markup::EndOfLines)
+}
+
+fn add_peers(alloc: Global, text: &mut String, standing: &Standing) -> Result<(), Memory>
+    ensures { OnOk result (IsPage (string_bytes text.old) → IsPage (string_bytes text.new)) }
+{
     if standing.sources.is_empty() {
-        text.push_str("<p>None.</p>\n")?;
-        return Ok(());
+        return add_markup(text, Markup::NoPeers);
     }
-    text.push_str("<table>\n")?;
+    add_markup(text, Markup::Table)?;
     for source in &standing.sources {
-        peer_line(text, source, standing.now)?;
+        add_peer(alloc, text, source, standing.now)?;
     }
-    text.push_str("</table>\n")?;
-    Ok(())
+    add_markup(text, Markup::EndOfTable)
 }
 
-fn peer_line(text: &mut String, source: &SourceStanding, now: u64) -> Result<(), Memory> {
-    text.push_str("<tr><td>")?;
-    escape(text, source.name.as_bytes())?;
-    text.push_str("</td><td>")?;
-    match source.last {
-        Some(last) => write!(text, "answered {} seconds ago", now.saturating_sub(last))?,
-        None => text.push_str("has not answered")?,
-    }
-    if source.failing {
-        text.push_str(", and does not answer now")?;
-    }
-    text.push_str("</td></tr>\n")?;
-    Ok(())
+fn add_peer(
+    alloc: Global,
+    text: &mut String,
+    source: &SourceStanding,
+    now: u64,
+) -> Result<(), Memory>
+    ensures { OnOk result (IsPage (string_bytes text.old) → IsPage (string_bytes text.new)) }
+{
+    add_markup(text, Markup::Peer)?;
+    add_text(text, source.name.as_bytes())?;
+    add_markup(text, Markup::Cell)?;
+    let line = peer_line(alloc, source, now)?;
+    add_text(text, line.as_bytes())?;
+    add_markup(text, Markup::EndOfPeer)
 }
 
-/// Adds a text so that a browser shows it as it is, and each hidden character by its number.
-fn escape(page: &mut String, bytes: &[u8]) -> Result<(), Memory> {
-    let Ok(text) = str::from_utf8(bytes) else {
-        return Ok(());
+/// When a peer answered last.
+fn peer_line(alloc: Global, source: &SourceStanding, now: u64) -> Result<String, Memory> {
+    let failing = if source.failing {
+        ", and does not answer now"
+    } else {
+        ""
     };
-    for c in text.chars() {
-        match c {
-            '<' => page.push_str("&lt;")?,
-            '>' => page.push_str("&gt;")?,
-            '&' => page.push_str("&amp;")?,
-            '"' => page.push_str("&quot;")?,
-            '\n' | '\t' => page.push(c)?,
-            other if is_hidden(other) => write!(page, "\\u{{{:x}}}", u32::from(other))?,
-            other => page.push(other)?,
+    Ok(match source.last {
+        Some(last) => {
+            let age = now.saturating_sub(last);
+            format!(in alloc; "answered {age} seconds ago{failing}")?
         }
-    }
-    Ok(())
+        None => format!(in alloc; "has not answered{failing}")?,
+    })
 }

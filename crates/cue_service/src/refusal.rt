@@ -1,11 +1,36 @@
-ghost use Rattle.std.specs.Prelude.{◌≢◌};
+ghost use Rattle.std.specs.Prelude.{◌≡◌, [], ◌∷◌, OnOk};
+ghost use Rattle.http_server.specs.Response.{IsBlank};
+ghost use Rattle.cue_service.specs.Statuses.{HasHead, plain_text, status_of_refusal, type_field};
 
+use crate::responses::answer_body;
+use bytes::Bytes;
 use cue_lattice::{Kind, Memory, Refusal};
 use http::StatusCode;
+use http_server::Response;
 use std::alloc::Global;
 
-pub(crate) fn refusal_code(kind: Kind) -> StatusCode
-    ensures { result ≢ 204 }
+/// Answers that a piece is refused, by a line that says why.
+pub(crate) fn answer_refusal(
+    alloc: Global,
+    why: Refusal,
+    bytes: &[u8],
+    response: &mut Response,
+) -> Result<(), Memory>
+    requires { IsBlank response.old }
+    ensures { OnOk result (HasHead (status_of_refusal why.kind) (type_field plain_text ∷ []) response.new) }
+{
+    let line = refusal_line(alloc, why, bytes)?;
+    let body = Bytes::from_string(line)?;
+    answer_body(
+        response,
+        refusal_code(why.kind),
+        "text/plain; charset=utf-8",
+        body,
+    )
+}
+
+fn refusal_code(kind: Kind) -> StatusCode
+    ensures { result ≡ status_of_refusal kind }
 {
     match kind {
         Kind::TooLong => StatusCode::PAYLOAD_TOO_LARGE,
@@ -15,7 +40,7 @@ pub(crate) fn refusal_code(kind: Kind) -> StatusCode
 }
 
 /// A line that says why something is refused, and in a text the line and the column.
-pub(crate) fn refusal_line(alloc: Global, why: Refusal, bytes: &[u8]) -> Result<String, Memory> {
+fn refusal_line(alloc: Global, why: Refusal, bytes: &[u8]) -> Result<String, Memory> {
     let (line, column) = position(bytes, why.place);
     let number = why.kind.number();
     let name = why.kind.name();

@@ -1,4 +1,5 @@
-ghost use Rattle.std.specs.Prelude.{◌≤◌, ◌⊎◌, ◌↔◌, IsTrue};
+ghost use Rattle.std.specs.Prelude.{◌≡◌};
+ghost use Rattle.cue_service.specs.Escapes.{is_hidden};
 
 use std::fmt;
 use std::fmt::{Display, Formatter, Write};
@@ -6,8 +7,7 @@ use std::fmt::{Display, Formatter, Write};
 /// Whether a character says how others are shown, or nothing that is seen: U+0000 to U+001F, U+007F to
 /// U+009F, U+202A to U+202E, U+2066 to U+2069.
 pub fn is_hidden(c: char) -> bool
-    ensures { IsTrue result ↔ ((c ≤ 31) ⊎ ((127 ≤ c) × (c ≤ 159))
-        ⊎ ((8234 ≤ c) × (c ≤ 8238)) ⊎ ((8294 ≤ c) × (c ≤ 8297))) }
+    ensures { result ≡ is_hidden c }
 {
     let number = u32::from(c);
     number <= 0x1F

@@ -4,13 +4,15 @@ ghost use Rattle.cue_replica.specs.Accepted.{IsOfPieces};
 ghost use Rattle.cue_journal.specs.Batches.{batch_bytes};
 ghost use Rattle.cue_journal.specs.Blocks.{recovered_pieces};
 ghost use Rattle.cue_journal.specs.Pairs.{IsPairReady, entries_of_pair, is_whole, MayLeave};
+ghost use Rattle.cue_service.specs.Editions.{IsEdition};
 ghost use Rattle.cue_service.specs.Entries.{pieces_of};
 ghost use Rattle.cue_service.specs.Answering.{IsSame};
 ghost use Rattle.cue_service.specs.Listing.{AreListed};
 ghost use Rattle.cue_service.specs.Tags.{tag_of};
 ghost use Rattle.cue_service.specs.Pulls.{CoversPiece, CoversAll, IsOfListed};
 
-use crate::desk::{AccessToken, SiteCore};
+use crate::access::AccessToken;
+use crate::desk::SiteCore;
 use crate::route::seconds_in;
 use crate::snapshots::Snapshots;
 use crate::standing::Standing;
@@ -88,6 +90,10 @@ impl<D: Disk> Site<D> {
             → IsConsistent D.Disk.seen D.Disk.may_leave result pieces pieces }
         // It has accepted nothing yet.
         ensures listed { AreListed [] result.desk.pieces }
+        // Its run has the number that it is given.
+        ensures run { result.desk.pieces.run ≡ run }
+        // And it wants the token that it is given.
+        ensures token { result.desk.token ≡ token }
     {
         Site {
             desk: SiteCore::new(alloc, board, token, standing, run),
@@ -211,9 +217,10 @@ impl<D: Disk> Gathers for Site<D> {
 
     /// The number goes with the tag of the table.
     fn edition(&mut self) -> u64
-        ensures { IsSiteUntouched self.old self.new }
+        ensures untouched { IsSiteUntouched self.old self.new }
+        ensures edition { IsEdition self.old.desk.editions (tag_of self.old.desk.board) result self.new.desk.editions }
     {
-        self.desk.board.edition()
+        self.desk.edition()
     }
 
     /// The tag of the table.

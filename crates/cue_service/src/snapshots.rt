@@ -1,4 +1,5 @@
-ghost use Rattle.std.specs.Prelude.{◌≡◌, ◌≢◌, ◌≤◌, ◌*◌, ◌⊎◌, IfSome, Some, IsTrue, IsFalse};
+ghost use Rattle.std.specs.Prelude.{◌≡◌, ◌≢◌, ◌≤◌, ◌*◌, ◌↔◌, IfSome, Some, None, IsTrue};
+ghost use Rattle.cue_service.specs.Snapshots.{IsDue};
 
 /// A journal that has fewer bytes behind the last snapshot is not condensed.
 const LEAST_JOURNAL: usize = 1024 * 1024;
@@ -33,26 +34,34 @@ impl Snapshots {
     /// has, and by a least length; and where one was refused, twice as long as it was then, and the
     /// table is another one.
     pub(crate) fn is_due(&self, grown: usize, changes: u64) -> bool
-        ensures again { IfSome self.now.refused (λ refused. IsTrue result
-            → (2 * refused.grown ≤ grown) × (changes ≢ refused.changes)) }
+        ensures { IsTrue result ↔ IsDue self.now grown changes }
     {
-        if let Some(refused) = self.refused {
-            if changes == refused.changes || grown / 2 < refused.grown {
-                return false;
-            }
+        grown.saturating_sub(self.size) >= LEAST_JOURNAL.max(self.size)
+            && self.may_try(grown, changes)
+    }
+
+    /// Whether none was refused, or the journal is twice as long as then, and the table another one.
+    fn may_try(&self, grown: usize, changes: u64) -> bool
+        ensures { IsTrue result ↔ IfSome self.now.refused
+            (λ refused. (2 * refused.grown ≤ grown) × (changes ≢ refused.changes)) }
+    {
+        match self.refused {
+            Some(refused) => refused.grown <= grown / 2 && changes != refused.changes,
+            None => true,
         }
-        grown >= LEAST_JOURNAL.max(self.size).saturating_add(self.size)
     }
 
     /// One of so many bytes was written.
-    pub(crate) fn note_written(&mut self, size: usize) {
+    pub(crate) fn note_written(&mut self, size: usize)
+        ensures { self.new ≡ record { size = size; refused = None } }
+    {
         self.size = size;
         self.refused = None;
     }
 
     /// One could not be written, with a journal of so many bytes.
     pub(crate) fn refuse(&mut self, grown: usize, changes: u64)
-        ensures { self.new.refused ≡ Some (record { grown = grown; changes = changes }) }
+        ensures { self.new ≡ record self.old { refused = Some (record { grown = grown; changes = changes }) } }
     {
         self.refused = Some(Refused { grown, changes });
     }

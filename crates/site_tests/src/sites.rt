@@ -189,13 +189,69 @@ fn pieces_are_taken_and_told(rt: HostRuntime) -> Result<(), Fail> {
     Ok(())
 }
 
+/// The status of a POST with this field, and the first field of its answer.
+fn posted(
+    alloc: Global,
+    site: &mut Site<Memory>,
+    name: &'static str,
+    value: &'static str,
+) -> Result<(u16, Vec<u8>), Fail> {
+    let request = Request::builder(alloc)
+        .method("POST")
+        .uri("/fragments")
+        .header(name, value)
+        .body(Bytes::from_static(b"a: 1"))?;
+    let mut response = Response::new(alloc);
+    site.call(&request, &mut response)?;
+    let mut field = Vec::new(alloc);
+    if let Some((name, value)) = response.headers.first() {
+        field.extend_from_slice(name.as_bytes())?;
+        field.extend_from_slice(b": ")?;
+        field.extend_from_slice(value.as_bytes())?;
+    }
+    Ok((response.status.as_u16(), field))
+}
+
+/// A field of a POST to a site with the token `sesame`, and the status and the first field of the answer.
+const GUARDED: &[(&str, &str, u16, &[u8])] = &[
+    ("accept", "a", 401, b"www-authenticate: Bearer"),
+    (
+        "authorization",
+        "Bearer sesam",
+        401,
+        b"www-authenticate: Bearer",
+    ),
+    (
+        "authorization",
+        "Bearer sesame2",
+        401,
+        b"www-authenticate: Bearer",
+    ),
+    ("authorization", "Bearer ", 401, b"www-authenticate: Bearer"),
+    (
+        "authorization",
+        "Basic sesame",
+        401,
+        b"www-authenticate: Bearer",
+    ),
+    ("authorization", "bEARER sesame", 204, b""),
+    ("authorization", "Bearer sesame", 204, b""),
+];
+
 #[test]
-fn a_word_is_wanted(rt: HostRuntime) -> Result<(), Fail> {
-    let word = AccessToken {
+fn a_token_is_wanted(rt: HostRuntime) -> Result<(), Fail> {
+    let token = AccessToken {
         bytes: Vec::from_slice(rt.alloc(), b"sesame")?,
     };
-    let refused: &[Row] = &[("POST /fragments", b"a: 1", 401, b"")];
-    assert!(rt; new_answers(rt.alloc(), Some(word), refused)?);
+    let mut site = new_site(rt.alloc(), Some(token))?;
+    for (name, value, status, field) in GUARDED {
+        let answer = posted(rt.alloc(), &mut site, name, value)?;
+        assert_eq!(rt; answer.0, *status);
+        assert!(rt; answer.1.as_slice() == *field);
+    }
+    let mut open = new_site(rt.alloc(), None)?;
+    let answer = posted(rt.alloc(), &mut open, "content-encoding", "gzip")?;
+    assert_eq!(rt; answer.0, 415);
     Ok(())
 }
 

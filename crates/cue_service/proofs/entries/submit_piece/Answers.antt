@@ -1,9 +1,10 @@
-use Rattle.std.proofs.Common.{ℕ, List, OnOk, IfErr, inr, sym, subst}
+use Rattle.std.proofs.Common.{ℕ, List, OnOk, IfErr, inr, sym, ap, subst}
 use Rattle.cue_lattice.specs.World.{piece_refuses, text}
 use Rattle.cue_replica.specs.Language.{language}
 use Rattle.cue_replica.specs.Replica.{AddsRefusals}
+use Rattle.cue_lattice.specs.declared.refusal.Refusal.{Refusal}
 use Rattle.cue_service.specs.declared.route.PieceKind.{PieceKind}
-use Rattle.cue_service.specs.Pulls.{IsRefusalOf}
+use Rattle.cue_service.specs.Refusals.{IsRefusalOf}
 use Rattle.cue_service.specs.Requests.{piece_of_bytes}
 use Rattle.cue_service.proofs.Pulls.{state_refusal, text_refusal}
 use Rattle.cue_service.proofs.entries.submit_piece.Goals as goal
@@ -26,4 +27,4 @@ returns-in-Ok-clause-refused c =
     (subst (λ (t : List ℕ). IfErr c.submit.result (IsRefusalOf (text t))) c.in-Ok.ensures.cases.0 (text_refusal c.submit.result _ c.submit.ensures.refused))
 
 pub returns-in-Err-clause-refused : goal.returns-in-Err-clause-refused
-returns-in-Err-clause-refused c = rw c.in-Text.is (inr (λ legal. c.in-Err.ensures.cases.0 legal.3))
+returns-in-Err-clause-refused c = rw c.in-Text.is (inr (λ legal. c.in-Err.ensures.cases.0 legal.3, inr (c.in-Err.ensures.cases.0, ap (λ (w : Refusal). w.kind) c.at.ensures)))

@@ -1,4 +1,4 @@
-use Rattle.std.proofs.Common.{◌≡◌, ℕ, List, Option, Vec, ◌++◌, inl, inr, refl, ap, ◌∙◌, subst}
+use Rattle.std.proofs.Common.{◌≡◌, ℕ, List, Option, Vec, [], ◌∷◌, ◌++◌, inl, inr, ap, ◌∙◌, subst}
 use Rattle.std.specs.Prelude.{IfSome, IfNone}
 use Rattle.std.specs.declared.alloc.Global.{Global}
 use Rattle.bytes.specs.Filled.{Filled}
@@ -6,6 +6,8 @@ use Rattle.cue_journal.specs.Blocks.{recovered_pieces}
 use Rattle.cue_pieces.specs.Cursors.{IsCursor}
 use Rattle.cue_pieces.specs.Listed.{KeepsPieces, behind_of}
 use Rattle.cue_pieces.specs.Lists.{blocks}
+use Rattle.http1.specs.Fields.{Header}
+use Rattle.cue_service.specs.Statuses.{place_field}
 use Rattle.cue_service.proofs.Listing.{told}
 use Rattle.cue_service.proofs.Opening.{on_ok}
 use Rattle.cue_service.proofs.listed.answer_pieces.Goals as goal
@@ -19,8 +21,7 @@ returns c =
     subst (λ (o : Option (Vec ℕ Global)). IfSome o (λ b. KeepsPieces pieces c.in-Some.cursor.run count × (b.items ≡ blocks (behind_of pieces count)) × (recovered_pieces b.items ≡ behind_of pieces count))) c.in-Some-2.is c.in_ok-body.ensures.some in
     let keeps : KeepsPieces pieces pieces.run count = subst (λ n. KeepsPieces pieces n count) found.0.same_run found.0 in
     let is : c.name_cursor.new.response.body.items ≡ body =
-    ap (λ (b : Filled). b.items) c.name_cursor.ensures.body ∙ c.in_ok-push.ensures
-    ∙ ap (λ (l : List ℕ). l ++ c.in_ok-from_vec.field-0) (ap (λ (b : Filled). b.items) c.in_ok-add_header.ensures.body ∙ c.requires.body) ∙ c.in_ok-from_vec.ensures.ok in
+    ap (λ (b : Filled). b.items) c.name_cursor.ensures.body ∙ c.in_ok-answer_body.ensures.body ∙ c.in_ok-from_vec.ensures.ok in
     on_ok c.name_cursor.result
     (λ named. inl (record {
       text = c.in-Some.ensures.some.0;
@@ -28,9 +29,11 @@ returns c =
       asks = c.in-Some.ensures.some.1;
       cursor = subst (λ n. IsCursor c.in-Some.ensures.some.0 n count) found.0.same_run c.in-Some.ensures.some.2;
       kept = keeps;
-      status = c.name_cursor.ensures.status ∙ c.in_ok-add_header.ensures.status ∙ c.requires.status;
+      head = (
+        c.name_cursor.ensures.status ∙ c.in_ok-answer_body.ensures.status,
+        named ∙ ap (λ (l : List Header). l ++ place_field pieces ∷ []) c.in_ok-answer_body.ensures.headers,
+      );
       told = told pieces count c.name_cursor.new.response.body.items keeps (is ∙ found.1) (ap recovered_pieces is ∙ found.2);
-      names = (_, named);
     }))
     c.name_cursor.ensures.named
 
@@ -46,5 +49,5 @@ returns-in-None c =
       asks = c.in-Some.ensures.some.1;
       cursor = c.in-Some.ensures.some.2;
       not_kept = subst (λ (o : Option (Vec ℕ Global)). IfNone o (¬ KeepsPieces pieces run count)) c.in-None.is c.in_ok-body.ensures.none;
-      status = refl;
+      answer = c.answer_status-in-None.ensures;
     }))

@@ -1,7 +1,7 @@
 use Rattle.std.proofs.Common.{ℕ, List, length, ap, arith, refl, ◌≡◌}
 use Rattle.cue_service.specs.declared.route.PieceKind.{PieceKind}
 use Rattle.cue_service.specs.declared.route.PieceKind.TheVariants as hands
-use Rattle.cue_service.specs.Answering.{bytes_in}
+use Rattle.cue_service.specs.Refusals.{bytes_in}
 use Rattle.cue_service.specs.Entries.{entry_of}
 use Rattle.cue_service.specs.Requests.{piece_of_bytes}
 use Rattle.cue_service.proofs.Listing.{listed_more, same_run_more}
@@ -13,6 +13,7 @@ same_bytes hands.State bytes = refl
 
 pub returns-in-Ok-clause-ok : goal.returns-in-Ok-clause-ok
 returns-in-Ok-clause-ok c = record {
+  token = refl;
   acceptable = c.in-Ok.ensures.acceptable;
   fits = omega (arith, c.in_ok-queue.ensures.fits, ap length (same_bytes c.args.hand c.args.bytes.now));
   adds = c.in-Ok.ensures.adds;

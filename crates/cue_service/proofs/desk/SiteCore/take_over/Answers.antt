@@ -1,4 +1,4 @@
-use Rattle.std.proofs.Common.{inl, sym, subst, arith}
+use Rattle.std.proofs.Common.{inl, refl, sym, subst, arith}
 use Rattle.std.specs.Prelude.{IfSome}
 use Rattle.cue_replica.specs.Language.{Table}
 use Rattle.cue_lattice.specs.World.{state}
@@ -15,6 +15,7 @@ returns-clause-ok c =
     subst (λ (t : Table). BringsState c.args.bytes.now c.args.self.now.board t) (sym c.replace.ensures)
     (subst (λ (t : Table). BringsState c.args.bytes.now t c.in-Some.next) c.table.ensures next) in
     inl (record {
+      token = refl;
       acceptable = brings.is_state;
       fits = omega (arith, c.in_ok-queue.ensures.fits);
       adds = brings.adds;

@@ -1,0 +1,26 @@
+use Rattle.std.proofs.Common.{◌≡◌, ◌⊎◌, ℕ, List, ◌∙◌, subst}
+use Rattle.http.specs.Request.{body_of}
+use Rattle.cue_service.specs.Answering.{IsPieceTaken, IsTagKnown}
+use Rattle.cue_service.specs.Refusals.{IsLeftOut}
+use Rattle.cue_service.specs.Requests.{piece_of_bytes}
+use Rattle.cue_service.proofs.Handing.{acknowledged, turned_down_if}
+use Rattle.cue_service.proofs.desk.SiteCore.accept_request.Goals as goal
+
+pub returns-in-Ok-clause-ok : goal.returns-in-Ok-clause-ok
+returns-in-Ok-clause-ok c =
+    let old = c.args.self.now in
+    let mid = c.take_in.new.self in
+    let is : c.as_slice-bytes.result.now ≡ body_of c.args.request.now = c.as_slice-bytes.ensures ∙ c.body.ensures in
+    acknowledged c.args.hand old mid c.note_taken.new.self c.args.request.now c.answer_status.new.response c.may_write.result c.is_encoded.result
+    c.if-not-may_write.false c.may_write.ensures c.if-is_encoded.false c.is_encoded.ensures
+    (subst (λ (b : List ℕ). IsPieceTaken (piece_of_bytes c.args.hand b) old mid ⊎ IsTagKnown (piece_of_bytes c.args.hand b) old mid) is c.in-Ok.ensures.ok)
+    c.answer_status.ensures
+
+pub returns-in-Err-clause-ok : goal.returns-in-Err-clause-ok
+returns-in-Err-clause-ok c =
+    let is : c.as_slice-bytes.result.now ≡ body_of c.args.request.now = c.as_slice-bytes.ensures ∙ c.body.ensures in
+    turned_down_if c.answer_refusal.result c.args.hand c.args.self.now c.take_in.new.self c.refuse.new.self c.args.request.now c.answer_refusal.new.response c.may_write.result c.is_encoded.result c.in-Err.why
+    c.if-not-may_write.false c.may_write.ensures c.if-is_encoded.false c.is_encoded.ensures
+    c.in-Err.ensures.err
+    (subst (λ (b : List ℕ). IsLeftOut (piece_of_bytes c.args.hand b) c.in-Err.why) is c.in-Err.ensures.left_out)
+    c.answer_refusal.ensures
