@@ -6,4 +6,3 @@ pub mod Frames
 pub mod Journals
 pub mod Pairs
 pub mod Settled
-pub mod Starts

@@ -53,7 +53,7 @@ pub fn command<'a>(alloc: Global) -> Result<Command<'a>, AllocError> {
         .arg(
             value(alloc, "data", "DIR", "The folder of the journal")
                 .value_parser(ValueParser::NonEmptyString)
-                .required_unless_present_any(&["check", "salvage"])?,
+                .required(true),
         )?
         .arg(value(alloc, "listen", "ADDRESS:PORT", "Where to listen").default_value(
             "127.0.0.1:8420",
