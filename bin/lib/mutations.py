@@ -28,7 +28,7 @@ def seeds():
                     states.add(bytes.fromhex(given["hex"]))
             if line["state"][0] == 0:
                 states.add(bytes.fromhex(line["state"][1]))
-    with open(os.path.join(TOP, "crates/cue_cases/data/streams.jsonl"), encoding="utf-8") as file:
+    with open(os.path.join(TOP, "crates/cue_streams/data/streams.jsonl"), encoding="utf-8") as file:
         streams = {bytes.fromhex(json.loads(line)["stream"]) for line in file}
     return {"texts": sorted(texts), "states": sorted(states), "frames": sorted(streams)}
 

@@ -1,11 +1,9 @@
-//! Compares answers of the lexer, the parser, sites and sessions with answers from outside, and
+//! Compares answers of the lexer, the parser and sites with answers from outside, and
 //! prints which are others. `cue_cases KIND FILE.. [KIND FILE..]..`: a word that names a kind says
 //! what the files behind it are.
 #![tactic(auto)]
 
-mod documents;
 mod lists;
-mod streams;
 mod texts;
 
 use anyhow::Context;
@@ -18,10 +16,6 @@ enum Kind {
     Texts,
     /// Inputs of one site, and what it answers.
     Lists,
-    /// Streams of requests, and the replies to them.
-    Streams,
-    /// Inputs of one site, and its document.
-    Documents,
     /// One text, for the time that the lexer takes.
     LexTime,
     /// One text, for the time that the parser takes.
@@ -34,8 +28,6 @@ impl Kind {
         match name {
             "texts" => Some(Kind::Texts),
             "lists" => Some(Kind::Lists),
-            "streams" => Some(Kind::Streams),
-            "documents" => Some(Kind::Documents),
             "lex" => Some(Kind::LexTime),
             "parse" => Some(Kind::ParseTime),
             _ => None,
@@ -47,8 +39,6 @@ impl Kind {
         match self {
             Kind::Texts => texts::compare_file(rt, path),
             Kind::Lists => lists::compare_all(rt, path),
-            Kind::Streams => streams::compare_file(rt, path),
-            Kind::Documents => documents::compare_file(rt, path),
             Kind::LexTime => texts::time_lexing(rt, path),
             Kind::ParseTime => texts::time_parsing(rt, path),
         }
@@ -61,7 +51,7 @@ fn main(rt: HostRuntime) -> anyhow::Result<()> {
         match Kind::named(word.as_str()) {
             Some(named) => kind = Some(named),
             None => kind
-                .context("usage: cue_cases texts|lists|streams|documents|lex|parse FILE..")?
+                .context("usage: cue_cases texts|lists|lex|parse FILE..")?
                 .run(&rt, word.as_str())?,
         }
     }

@@ -1,13 +1,16 @@
-//! Lists of inputs with the document that one new site must have that accepted them. Each document
-//! is read back as a text and submitted to its site, which must export it then. Each line is a JSON
-//! object: `inputs` is a list of texts and of states (`{"hex": ".."}`), `document` the document, or
-//! the text `none` where there is a conflict.
+//! Reads lists of inputs with the document that one new site must tell that has taken them, and
+//! tells where it tells another. Each document is read back as a text and handed to its site, which
+//! must export it then. Each line is a JSON object: `inputs` is a list of texts and of states
+//! (`{"hex": ".."}`), `document` the document, or the text `none` where there is a conflict.
+//! `document_lists FILE` reads a file.
+#![tactic(auto)]
+
 mod list;
 
-use crate::documents::list::{inputs_of, is_wanted, reads_back, site_of};
 use anyhow::Context;
+use list::{inputs_of, is_wanted, reads_back, site_of};
 use serde_json::Value;
-use std::fs;
+use std::{env, fs};
 
 /// How many sites told a document and how many none, and how many answers were wrong.
 #[derive(Drop)]
@@ -46,9 +49,11 @@ fn compare(rt: &HostRuntime, number: usize, line: &str, counts: &mut Counts) -> 
     Ok(())
 }
 
-/// Compares the documents of a file with those that sites have, and prints which are others.
-pub(crate) fn compare_file(rt: &HostRuntime, path: &str) -> anyhow::Result<()> {
-    let all = fs::read_to_string(rt, path)?;
+fn main(rt: HostRuntime) -> anyhow::Result<()> {
+    let path = env::args(&rt)?
+        .nth(1)
+        .context("usage: document_lists FILE")?;
+    let all = fs::read_to_string(&rt, path.as_str())?;
     let mut counts = Counts {
         told: 0,
         without: 0,
@@ -58,7 +63,7 @@ pub(crate) fn compare_file(rt: &HostRuntime, path: &str) -> anyhow::Result<()> {
     let mut number = 0usize;
     for line in all.as_str().lines() {
         number = number.saturating_add(1);
-        compare(rt, number, line, &mut counts)?;
+        compare(&rt, number, line, &mut counts)?;
     }
     println!(rt;
         "{number} lists: {} documents, {} read back, {} without a document; {} wrong",

@@ -1,13 +1,17 @@
-//! Streams of requests to one new site each, with the replies and the end that each must have. Each
-//! line is a JSON object: `stream` and `replies` are in hexadecimal, `ends` is `whole`, `cut` or
-//! `FrameTooLong`, and `export` is a list of the status and the bytes of an export of the site
-//! afterwards. Each stream is fed whole, byte by byte and cut at random.
+//! Reads streams of requests to one new site each, with the replies and the end that each must
+//! have, and tells where a session gives others. Each line is a JSON object: `stream` and
+//! `replies` are in hexadecimal, `ends` is `whole`, `cut` or `FrameTooLong`, and `export` is a list
+//! of the status and the bytes of an export of the site afterwards. Each stream is fed whole,
+//! byte by byte and cut at random. `cue_streams FILE` reads a file.
+#![tactic(auto)]
+
 mod line;
 mod run;
 
-use crate::streams::line::{End, Line};
-use crate::streams::run::{Cuts, agrees};
-use std::fs;
+use anyhow::Context;
+use line::{End, Line};
+use run::{Cuts, agrees};
+use std::{env, fs};
 
 /// How many streams ended in each way, and how many runs were wrong.
 #[derive(Drop)]
@@ -50,14 +54,14 @@ fn compare(rt: &HostRuntime, number: u64, text: &str, counts: &mut Counts) -> an
     Ok(())
 }
 
-/// Feeds each stream of a file to new sites, and prints which answers are others.
-pub(crate) fn compare_file(rt: &HostRuntime, path: &str) -> anyhow::Result<()> {
-    let all = fs::read_to_string(rt, path)?;
+fn main(rt: HostRuntime) -> anyhow::Result<()> {
+    let path = env::args(&rt)?.nth(1).context("usage: cue_streams FILE")?;
+    let all = fs::read_to_string(&rt, path.as_str())?;
     let mut counts = Counts::new();
     let mut number = 0u64;
     for text in all.as_str().lines() {
         number = number.saturating_add(1);
-        compare(rt, number, text, &mut counts)?;
+        compare(&rt, number, text, &mut counts)?;
     }
     print!(rt;
         "{number} streams, each cut in 3 ways: {} end between two frames, ",

@@ -1,4 +1,4 @@
-use crate::streams::line::{End, Line};
+use crate::line::{End, Line};
 use anyhow::anyhow;
 use cue_answer::{SiteQuestion, answer_to};
 use cue_wire::{Client, Kind, Replica, Session};
