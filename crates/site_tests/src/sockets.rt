@@ -120,8 +120,6 @@ fn a_source_is_asked_with_the_tag_of_the_table(rt: HostRuntime) -> Result<(), Fa
     let source = PullSource {
         at: peer.local_addr()?,
     };
-    // A site answers for no other host.
-    let host = format!(in rt.alloc(); "host: {}\r\n", source.at)?;
     let site = new_site(rt.alloc(), None)?;
     assert!(rt; serve(&rt, &rt, listener, bounds(), &[source], site, ROUNDS).is_ok());
     let (stream, _) = peer.accept()?;
@@ -129,10 +127,5 @@ fn a_source_is_asked_with_the_tag_of_the_table(rt: HostRuntime) -> Result<(), Fa
     let _reset = (&stream).read_to_end(&mut question);
     assert!(rt; question.starts_with(b"GET /state HTTP/1.1\r\n"));
     assert!(rt; question.windows(KNOWN.len()).any(|part| part == KNOWN));
-    assert!(rt;
-        question
-            .windows(host.len())
-            .any(|part| part == host.as_bytes())
-    );
     Ok(())
 }
