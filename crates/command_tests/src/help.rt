@@ -3,7 +3,7 @@ use cue_command::store;
 use std::test::Fail;
 
 /// What `bin/cuestore --help` prints.
-const HELP: &str = "Unifies configuration that many hands write and no server owns
+const HELP: &str = "Merges configuration that several teams write, without a leader
 
 Usage: cuestore <COMMAND>
 
@@ -15,7 +15,7 @@ Commands:
   merge   Writes the state bytes to the file OUT
   serve   Serves COUNT connections on a port, then prints as export
   push    Sends the inputs to the site on a port, then prints its export
-  loop    Does the same with both ends in this process
+  loop    Serves a new site and pushes to it, in one process
 ";
 
 #[test]

@@ -18,7 +18,7 @@ fn help_of(name: &str) -> &'static str {
         "merge" => "Writes the state bytes to the file OUT",
         "serve" => "Serves COUNT connections on a port, then prints as export",
         "push" => "Sends the inputs to the site on a port, then prints its export",
-        "loop" => "Does the same with both ends in this process",
+        "loop" => "Serves a new site and pushes to it, in one process",
         _ => "",
     }
 }
@@ -96,7 +96,7 @@ fn base_app<'a>(alloc: Global) -> Command<'a>
     ensures { IsApp (record { top = top; subs = [] }) result }
 {
     Command::new(alloc, "cuestore")
-        .about("Unifies configuration that many hands write and no server owns")
+        .about("Merges configuration that several teams write, without a leader")
         .no_binary_name(true)
         .disable_help_flag(true)
         .disable_help_subcommand(true)
