@@ -15,8 +15,8 @@ pub(crate) struct Wait {
     pub(crate) seconds: u64,
 }
 
-/// The fields that are asked again as they came.
-const FIELDS: [&str; 2] = ["if-none-match", "connection"];
+/// The fields that are asked again as they came, as far as they decide on an answer.
+const FIELDS: [&str; 5] = ["host", "if-none-match", "connection", "accept", "authorization"];
 
 /// How a request waits. One of another form, or for which memory is wanting, waits for nothing.
 pub(crate) fn wait_of_request(alloc: Global, request: &Request<Bytes>, seconds: u64) -> Option<Wait>
@@ -39,7 +39,7 @@ fn question_of(alloc: Global, request: &Request<Bytes>) -> Result<Vec<u8>, Alloc
     let mut question = Vec::new(alloc);
     question.extend_from_slice(b"GET ")?;
     question.extend_from_slice(request.uri().path().as_bytes())?;
-    question.extend_from_slice(b" HTTP/1.1\r\nhost: site\r\n")?;
+    question.extend_from_slice(b" HTTP/1.1\r\n")?;
     for name in FIELDS {
         if let Some(value) = request.headers().get(name) {
             question.extend_from_slice(name.as_bytes())?;
