@@ -13,6 +13,9 @@ use cue_lattice::{Kind, Refusal};
 /// The greatest magnitude without a `-` before it.
 const GREATEST: u64 = 9_223_372_036_854_775_807;
 
+/// The number of so many decimal digits is below 2^64.
+const SHORT: usize = 18;
+
 /// The integer literal at the front, where a decimal digit stands there.
 #[tactic(auto, unfolding(crate::specs::Lexemes::integer))]
 pub fn integer<'a>(bytes: &[u8], at: usize, after_minus: bool) -> Result<Lexeme<'a>, Refusal>
@@ -79,9 +82,28 @@ fn magnitude(literal: &[u8]) -> Option<u64>
         [b'0', b'x' | b'X', digits @ ..] => digits_value(digits, 16),
         [b'0', b'o', digits @ ..] => digits_value(digits, 8),
         [b'0', b'b', digits @ ..] => digits_value(digits, 2),
-        [b'1'..=b'9', ..] => digits_value(literal, 10),
+        [b'1'..=b'9', ..] => decimal_value(literal),
         _ => None,
     }
+}
+
+/// The number that decimal digits spell, as `digits_value` has it. So few digits without a `_`
+/// spell one that no sum is too large for.
+fn decimal_value(digits: &[u8]) -> Option<u64>
+    requires { 0 < length digits.now }
+    ensures { result ≡ option_map (λ n. min n u64.MAX) (digits_number 10 digits.now) }
+{
+    if digits.len() > SHORT {
+        return digits_value(digits, 10);
+    }
+    let mut value = 0u64;
+    for byte in digits {
+        let Some(digit) = digit_of(*byte, 10) else {
+            return digits_value(digits, 10);
+        };
+        value = value * 10 + digit as u64;
+    }
+    Some(value)
 }
 
 /// The number that digits of a base spell, with single `_` between them, or `u64::MAX` where it is
