@@ -54,3 +54,4 @@ pub mod Finding
 pub mod Kept
 pub mod Taking
 pub mod TextTerms
+pub mod OtherTexts

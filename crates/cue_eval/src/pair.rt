@@ -1,5 +1,5 @@
 //! The value and the default of scalar expressions.
-ghost use Rattle.std.specs.Prelude.{◌≡◌, ◌<◌, ℕ, List, length, IfOk, IfSome};
+ghost use Rattle.std.specs.Prelude.{◌≡◌, ◌<◌, ℕ, List, length, map, IfOk, IfSome};
 ghost use Rattle.cue_sets.specs.Texts.{is_listed, is_member_if, is_text_member};
 ghost use Rattle.cue_scalars.specs.Pairs as joining;
 ghost use Rattle.cue_scalars.specs.Values.{pair_of_value};
@@ -7,7 +7,7 @@ ghost use Rattle.cue_syntax.specs.Syntax as tree;
 ghost use Rattle.cue_scope.specs.Meaning.{meant_word};
 ghost use Rattle.cue_eval.specs.Inner.Known.{named_core, core_of, parts_of, choices_of, IsPairable};
 ghost use Rattle.cue_eval.specs.Inner.Known.{ArePairable, ArePairableTerms, IsPairableName};
-ghost use Rattle.cue_eval.specs.Inner.Written.{AreTextTerms};
+ghost use Rattle.cue_eval.specs.Inner.Written.{AreTextTerms, IsAllButTexts};
 ghost use Rattle.cue_eval.specs.Pairs.{pair, pairs_of, terms_of};
 
 use crate::scalars::{
@@ -145,6 +145,45 @@ fn texts_of_terms(alloc: Global, terms: &[Term]) -> Result<Option<Vec<Text>>, Me
 /// Whether each term is a text without a mark.
 fn are_texts(terms: &[Term]) -> bool {
     terms.iter().all(|term| !term.marked && matches!(&term.value, Expr::Text(_)))
+}
+
+/// All texts but those of some parts, where each part is `!=` and a text, and none is there twice.
+pub(crate) fn all_but_texts(alloc: Global, parts: &[Expr]) -> Result<Option<Valued>, Memory>
+    ensures { IfOk result (λ found. IfSome found (IsAllButTexts parts.now)) }
+{
+    let Some(texts) = texts_of_parts(alloc, parts)? else {
+        return Ok(None);
+    };
+    if texts.is_empty() {
+        return Ok(None);
+    }
+    match set_of_texts(true, texts) {
+        None => Ok(None),
+        Some(set) => Ok(Some(of_texts(alloc, set))),
+    }
+}
+
+/// The texts of parts, where each part is `!=` and a text.
+fn texts_of_parts(alloc: Global, parts: &[Expr]) -> Result<Option<Vec<Text>>, Memory>
+    ensures { IfOk result (λ found. IfSome found (λ texts.
+        parts.now ≡ map Expr.OtherText texts.items)) }
+{
+    if !are_other_texts(parts) {
+        return Ok(None);
+    }
+    let mut texts = Vec::with_capacity(alloc, parts.len())?;
+    for part in parts {
+        match part {
+            Expr::OtherText(text) => texts.push(text.to_text(alloc)?)?,
+            _ => return Ok(None),
+        }
+    }
+    Ok(Some(texts))
+}
+
+/// Whether each part is `!=` and a text.
+fn are_other_texts(parts: &[Expr]) -> bool {
+    parts.iter().all(|part| matches!(part, Expr::OtherText(_)))
 }
 
 /// The set of these texts or, if `all_but` is true, of all others, where none is there twice.
