@@ -67,7 +67,7 @@ leaf_refuses ds m (tree.disjunction bs) l path question = (λ h. h, λ h. h)
 leaf_refuses ds m _ l path question = absurd l
 
 -- what refuses as its pair does has the answers of a table that refuses as the pair does
-by_its_pair : (c : Core) (v : Valued) (table : Tree Row) → SameAnswers (Refuses c) (IsAtPlace (ScalarRefuses (pair c))) → pair_of_value v ≡ pair c → SameAnswers (TreeRefusals table) (IsAtPlace (ScalarRefuses (pair_of_value v)))
+pub by_its_pair : (c : Core) (v : Valued) (table : Tree Row) → SameAnswers (Refuses c) (IsAtPlace (ScalarRefuses (pair c))) → pair_of_value v ≡ pair c → SameAnswers (TreeRefusals table) (IsAtPlace (ScalarRefuses (pair_of_value v)))
     → HasAnswersOf c table
 by_its_pair c v table refused is same path question =
     let e = of_pair c v table is same path question in

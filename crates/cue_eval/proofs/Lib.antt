@@ -53,3 +53,5 @@ pub mod Defining
 pub mod Finding
 pub mod Kept
 pub mod Taking
+pub mod TextTerms
+pub mod OtherTexts

@@ -8,3 +8,4 @@ pub mod Ready
 pub mod Telling
 pub mod TellingLaws
 pub mod Told
+pub mod Written

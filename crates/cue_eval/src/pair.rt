@@ -1,20 +1,23 @@
 //! The value and the default of scalar expressions.
-ghost use Rattle.std.specs.Prelude.{◌≡◌, ◌<◌, length, IfOk};
+ghost use Rattle.std.specs.Prelude.{◌≡◌, ◌<◌, ℕ, List, length, map, IfOk, IfSome};
+ghost use Rattle.cue_sets.specs.Texts.{is_listed, is_member_if, is_text_member};
 ghost use Rattle.cue_scalars.specs.Pairs as joining;
 ghost use Rattle.cue_scalars.specs.Values.{pair_of_value};
 ghost use Rattle.cue_syntax.specs.Syntax as tree;
 ghost use Rattle.cue_scope.specs.Meaning.{meant_word};
 ghost use Rattle.cue_eval.specs.Inner.Known.{named_core, core_of, parts_of, choices_of, IsPairable};
 ghost use Rattle.cue_eval.specs.Inner.Known.{ArePairable, ArePairableTerms, IsPairableName};
+ghost use Rattle.cue_eval.specs.Inner.Written.{AreTextTerms, IsAllButTexts};
 ghost use Rattle.cue_eval.specs.Pairs.{pair, pairs_of, terms_of};
 
 use crate::scalars::{
-    bottom_value, bound_value, integer_alone, integer_of, named_set, null_alone, other_integers,
-    other_texts, text_alone, truth_alone,
+    bottom_value, bound_value, integer_alone, integer_of, named_set, null_alone, of_texts,
+    other_integers, other_texts, text_alone, truth_alone,
 };
-use cue_lattice::Memory;
+use cue_lattice::{Memory, Text};
 use cue_scalars::Valued;
 use cue_scope::{Definitions, Named};
+use cue_sets::TextSet;
 use cue_syntax::{Expr, Identifier, Term};
 use std::alloc::Global;
 
@@ -73,13 +76,18 @@ impl<'a, 'f, 't> Pairs<'a, 'f, 't> {
         Valued::and_all(self.alloc, pairs)
     }
 
-    /// Terms that are joined by `|`.
+    /// Terms that are joined by `|`. Texts are put straight into one set, where each is there once.
     #[cycle(pair)]
     fn disjunction(&self, terms: &[Term]) -> Result<Valued, Memory>
         requires { ArePairableTerms self.now (tree.branches_of_list terms.now) }
         ensures { IfOk result (λ valued. pair_of_value valued
             ≡ joining.disjunction (terms_of (choices_of self.now (tree.branches_of_list terms.now)))) }
     {
+        if let Some(texts) = texts_of_terms(self.alloc, terms)? {
+            if let Some(set) = set_of_texts(false, texts) {
+                return Ok(of_texts(self.alloc, set));
+            }
+        }
         let mut pairs = Vec::new(self.alloc);
         for term in terms {
             let pair = self.pair(&term.value)?;
@@ -115,6 +123,76 @@ impl<'a, 'f, 't> Pairs<'a, 'f, 't> {
             },
         }
     }
+}
+
+/// The texts of terms, where each term is a text without a mark.
+fn texts_of_terms(alloc: Global, terms: &[Term]) -> Result<Option<Vec<Text>>, Memory>
+    ensures { IfOk result (λ found. IfSome found (λ texts. AreTextTerms terms.now texts.items)) }
+{
+    if !are_texts(terms) {
+        return Ok(None);
+    }
+    let mut texts = Vec::with_capacity(alloc, terms.len())?;
+    for term in terms {
+        match &term.value {
+            Expr::Text(text) if !term.marked => texts.push(text.to_text(alloc)?)?,
+            _ => return Ok(None),
+        }
+    }
+    Ok(Some(texts))
+}
+
+/// Whether each term is a text without a mark.
+fn are_texts(terms: &[Term]) -> bool {
+    terms.iter().all(|term| !term.marked && matches!(&term.value, Expr::Text(_)))
+}
+
+/// All texts but those of some parts, where each part is `!=` and a text, and none is there twice.
+pub(crate) fn all_but_texts(alloc: Global, parts: &[Expr]) -> Result<Option<Valued>, Memory>
+    ensures { IfOk result (λ found. IfSome found (IsAllButTexts parts.now)) }
+{
+    let Some(texts) = texts_of_parts(alloc, parts)? else {
+        return Ok(None);
+    };
+    if texts.is_empty() {
+        return Ok(None);
+    }
+    match set_of_texts(true, texts) {
+        None => Ok(None),
+        Some(set) => Ok(Some(of_texts(alloc, set))),
+    }
+}
+
+/// The texts of parts, where each part is `!=` and a text.
+fn texts_of_parts(alloc: Global, parts: &[Expr]) -> Result<Option<Vec<Text>>, Memory>
+    ensures { IfOk result (λ found. IfSome found (λ texts.
+        parts.now ≡ map Expr.OtherText texts.items)) }
+{
+    if !are_other_texts(parts) {
+        return Ok(None);
+    }
+    let mut texts = Vec::with_capacity(alloc, parts.len())?;
+    for part in parts {
+        match part {
+            Expr::OtherText(text) => texts.push(text.to_text(alloc)?)?,
+            _ => return Ok(None),
+        }
+    }
+    Ok(Some(texts))
+}
+
+/// Whether each part is `!=` and a text.
+fn are_other_texts(parts: &[Expr]) -> bool {
+    parts.iter().all(|part| matches!(part, Expr::OtherText(_)))
+}
+
+/// The set of these texts or, if `all_but` is true, of all others, where none is there twice.
+fn set_of_texts(all_but: bool, mut texts: Vec<Text>) -> Option<TextSet>
+    ensures { IfSome result (λ set. (text : List ℕ) →
+        is_text_member set text ≡ is_member_if all_but (is_listed texts.items text)) }
+{
+    texts.sort_unstable_by(|one, other| one.compare(other));
+    TextSet::from_texts(all_but, texts)
 }
 
 /// A name of a scalar, or of a set of scalars; any other has no meaning.

@@ -179,7 +179,7 @@ fn of_integers(alloc: Global, ints: IntSet) -> Valued
 }
 
 /// The members of a set of texts.
-fn of_texts(alloc: Global, texts: TextSet) -> Valued
+pub(crate) fn of_texts(alloc: Global, texts: TextSet) -> Valued
     ensures { (test : List ℕ → Bool) →
         ((t : List ℕ) → is_text_member texts t ≡ test t) →
         pair_of_value result ≡ plain_pair (sets.all_texts test) }

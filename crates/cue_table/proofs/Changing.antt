@@ -1,9 +1,9 @@
 -- What changes in a list of branches that takes others over.
-use Rattle.std.proofs.Common.{◌≡◌, ℕ, zero, suc, ◌≤◌, ◌<◌, List, [], ◌∷◌, ◌++◌, append_assoc, length, take, drop, get_or, slice_set, Option, Some, None, true, false, refl, sym, ap, subst, ◌∙◌, arith}
+use Rattle.std.proofs.Common.{◌≡◌, ℕ, zero, suc, ◌≤◌, ◌<◌, List, [], ◌∷◌, ◌++◌, append_assoc, length, take, drop, get_or, slice_set, Option, Some, None, true, false, inl, ⊎_elim, refl, sym, ap, subst, ◌∙◌, arith}
 use Rattle.std.specs.List.{insert as inserted}
 use Rattle.std.specs.Option.{option_to_list}
 use Rattle.cue_row.specs.Steps.{step_of}
-use Rattle.cue_table.specs.Tree.{none, child}
+use Rattle.cue_table.specs.Tree.{Tree, none, child}
 use Rattle.cue_table.specs.Depth.{tree_depth, children_depth}
 use Rattle.cue_table.specs.Form.{AreBranches, IsStepBelowAll, IsRowKept, IsTable}
 use Rattle.cue_table.specs.Meet.{IsMet}
@@ -49,6 +49,10 @@ module _ {R : Type 0} where
   set_at n [] c l = absurd (omega arith)
   set_at zero (x ∷ xs) c l = refl
   set_at (suc n) (x ∷ xs) c l = ap (λ ys. x ∷ ys) (set_at n xs c (omega arith))
+
+-- a place that takes the same one over stays as it is
+pub met_same : {R Q : Type 0} (refuses : R → Q → Type 0) (a b : Tree R) → a ≡ b → IsMet refuses a b a
+met_same refuses a b same = subst (λ t. IsMet refuses a t a) same (λ path question. (λ h. inl h, λ h. ⊎_elim (λ g. g) (λ g. g) h))
 
 module _ {R Q : Type 0} (refuses : R → Q → Type 0) (is_value : R → Type 0) where
   abbrev Kept : R → Type 0

@@ -1,10 +1,12 @@
 //! What changes in a list of branches that takes others over. It is made before the list changes,
 //! so that the change itself only moves branches.
-ghost use Rattle.std.specs.Prelude.{◌≡◌, ◌≤◌, ◌<◌, ◌+◌, length, slice_index_or, IfOk};
+ghost use Rattle.std.specs.Prelude.{◌≡◌, ◌≤◌, ◌<◌, ◌+◌, length, slice_index_or, IfOk, IsTrue};
 ghost use Rattle.cue_row.specs.Steps.{step_of};
 ghost use Rattle.cue_table.specs.Form.{AreBranches, IsRowKept, IsTable};
 ghost use Rattle.cue_table.specs.Inner.Meet.{IsMerge};
-ghost use Rattle.cue_table.specs.Inner.Changes.{ChangesFit, IsFound, branches_behind, carry_out_changes, replaced_count};
+ghost use Rattle.cue_table.specs.Meet.{IsMet};
+ghost use Rattle.cue_table.specs.Inner.Changes.{ChangesFit, IsFound, branches_behind, carry_out_changes};
+ghost use Rattle.cue_table.specs.Inner.Changes.{or_old, replaced_count};
 ghost use Rattle.cue_table.specs.Inner.Place.{AreBefore};
 ghost use Rattle.cue_table.specs.Inner.View.{branches};
 
@@ -85,8 +87,7 @@ fn change_by<R: Narrow>(
             child: other,
         })),
         Ok(kept) => {
-            let other = other.into_node(alloc)?;
-            let Some(child) = unify_child(alloc, branch_at(left, kept), other)? else {
+            let Some(child) = unify_with(alloc, branch_at(left, kept), other)? else {
                 return Ok(FoundChange::Same(kept + 1));
             };
             Ok(FoundChange::New(Change {
@@ -95,6 +96,43 @@ fn change_by<R: Narrow>(
                 child,
             }))
         }
+    }
+}
+
+/// A branch unified with another one, unless it stays as it is.
+#[cycle(meet)]
+fn unify_with<R: Narrow>(
+    alloc: Global,
+    left: &Child<R>,
+    other: Child<R>,
+) -> Result<Option<Child<R>>, Memory>
+    requires left { IsTable R.refuses R.is_value left.now.node }
+    requires right { IsTable R.refuses R.is_value other.node }
+    ensures step { IfOk result (λ met. (or_old met left.now).step ≡ left.now.step) }
+    ensures form { IfOk result (λ met. IsTable R.refuses R.is_value (or_old met left.now).node) }
+    ensures refused { IfOk result (λ met.
+        IsMet R.refuses left.now.node other.node (or_old met left.now).node) }
+{
+    if is_same_leaf(left, &other) {
+        return Ok(None);
+    }
+    let node = other.into_node(alloc)?;
+    unify_child(alloc, left, node)
+}
+
+/// Whether at both stands the same row and nothing below, as many places are that two sites
+/// share. Others may be the same too.
+#[inline(always)]
+fn is_same_leaf<R: Narrow>(left: &Child<R>, right: &Child<R>) -> bool
+    ensures { IsTrue result → left.now.node ≡ right.now.node }
+{
+    let (left, right) = (left.node(), right.node());
+    if !left.children.is_empty() || !right.children.is_empty() {
+        return false;
+    }
+    match (&left.row, &left.rest, &right.row, &right.rest) {
+        (Some(row), None, Some(other), None) => row.same(other),
+        _ => false,
     }
 }
 

@@ -1,6 +1,6 @@
 //! Many tables as one.
 ghost use Rattle.std.specs.Prelude.{◌≡◌, ◌↔◌, ◌<◌, drop, filter, map, take, None, All};
-ghost use Rattle.std.specs.Prelude.{IfOk, IsTrue, OnOk};
+ghost use Rattle.std.specs.Prelude.{IfOk, IsPermutation, IsTrue, OnOk};
 ghost use Rattle.std.specs.Vec.Iter.{into_iter_items};
 ghost use Rattle.cue_lattice.specs.Limits.{step_limit};
 ghost use Rattle.cue_table.specs.Depth.{tree_depth};
@@ -18,7 +18,11 @@ use crate::node::Node;
 use cue_lattice::{Memory, Narrow};
 use cue_row::Step;
 use std::alloc::Global;
+use std::cmp::Ordering;
 use std::vec::IntoIter;
+
+/// From so many branches on, sorting them by the heads of their steps takes less than without.
+const MANY: usize = 32;
 
 impl<R: Narrow> Table<R> {
     /// What the tables of a list know together: refuses exactly what one of them does. Of an empty
@@ -94,16 +98,106 @@ fn of_rising<R: Narrow>(alloc: Global, children: Vec<Child<R>>) -> Table<R>
 }
 
 /// The table of branches in any order, which are put in that of their steps.
-fn of_any<R: Narrow>(alloc: Global, mut children: Vec<Child<R>>) -> Result<Table<R>, Memory>
+fn of_any<R: Narrow>(alloc: Global, children: Vec<Child<R>>) -> Result<Table<R>, Memory>
     requires { All (IsBranch R.refuses R.is_value) children.items }
     ensures form { IfOk result (IsTable R.refuses R.is_value) }
     ensures refused { IfOk result (IsOfBranches R.refuses (map given_of children.items)) }
 {
-    children.sort_by(|one, other| one.step().compare(other.step()))?;
-    if is_rising(&children) {
-        return Ok(of_rising(alloc, children));
+    let sorted = sort_children(alloc, children)?;
+    if is_rising(&sorted) {
+        return Ok(of_rising(alloc, sorted));
     }
-    met_together(alloc, children)
+    met_together(alloc, sorted)
+}
+
+/// Puts branches in the order of their steps.
+fn sort_children<R: Narrow>(
+    alloc: Global,
+    mut children: Vec<Child<R>>,
+) -> Result<Vec<Child<R>>, Memory>
+    ensures { IfOk result (λ sorted. IsPermutation children.items sorted.items) }
+{
+    if children.len() >= MANY && are_heads_apart(&children) {
+        return sort_by_heads(alloc, children);
+    }
+    children.sort_by(|one, other| one.step().compare(other.step()))?;
+    Ok(children)
+}
+
+/// Whether the steps of the first and the last branch have different heads. Where one label stands
+/// again and again they have not.
+fn are_heads_apart<R: Narrow>(children: &[Child<R>]) -> bool {
+    match (children.first(), children.last()) {
+        (Some(first), Some(last)) => head_of(first.step()) != head_of(last.step()),
+        _ => false,
+    }
+}
+
+/// Puts many branches in the order of their steps. The first bytes of each step stand beside its
+/// branch, so that most comparisons look at no text.
+fn sort_by_heads<R: Narrow>(alloc: Global, children: Vec<Child<R>>) -> Result<Vec<Child<R>>, Memory>
+    ensures { IfOk result (λ sorted. IsPermutation children.items sorted.items) }
+{
+    let mut headed = with_heads(alloc, children)?;
+    headed.sort_unstable_by(|one, other| match one.0.cmp(&other.0) {
+        Ordering::Equal => one.1.step().compare(other.1.step()),
+        order => order,
+    });
+    without_heads(alloc, headed)
+}
+
+/// Branches with the heads of their steps.
+fn with_heads<R: Narrow>(
+    alloc: Global,
+    children: Vec<Child<R>>,
+) -> Result<Vec<(u64, Child<R>)>, Memory>
+    ensures { IfOk result (λ headed. map (λ one. one.1) headed.items ≡ children.items) }
+{
+    let mut headed = Vec::with_capacity(alloc, children.len())?;
+    for child in children {
+        headed.push((head_of(child.step()), child))?;
+    }
+    Ok(headed)
+}
+
+/// Branches alone.
+fn without_heads<R: Narrow>(
+    alloc: Global,
+    headed: Vec<(u64, Child<R>)>,
+) -> Result<Vec<Child<R>>, Memory>
+    ensures { IfOk result (λ children. children.items ≡ map (λ one. one.1) headed.items) }
+{
+    let mut children = Vec::with_capacity(alloc, headed.len())?;
+    for (_, child) in headed {
+        children.push(child)?;
+    }
+    Ok(children)
+}
+
+/// The first eight bytes of a label as a number, with zeros behind a shorter one; the greatest
+/// number for an index. Where one step is before another, its head is not above that one's.
+fn head_of(step: &Step) -> u64 {
+    match step {
+        Step::Index(_) => u64::MAX,
+        Step::Label(label) => {
+            let bytes = label.as_bytes();
+            match bytes.first_chunk::<8>() {
+                Some(first) => u64::from_be_bytes(*first),
+                None => short_head(bytes),
+            }
+        }
+    }
+}
+
+/// The bytes of a label shorter than eight bytes as a number, with zeros behind them.
+fn short_head(bytes: &[u8]) -> u64 {
+    let mut first = [0; 8];
+    for (at, byte) in bytes.iter().enumerate() {
+        if at < first.len() {
+            first[at] = *byte;
+        }
+    }
+    u64::from_be_bytes(first)
 }
 
 /// The table of branches of which some stand at one step. A branch behind all before it is one of

@@ -18,7 +18,7 @@ use Rattle.cue_table.specs.Inner.Parts.{or_row}
 use Rattle.cue_table.specs.Inner.Rests.{AreElementsMet, AreMetRests, IsBranch}
 use Rattle.cue_table.specs.Inner.View.{branches, rest_in, run_branches}
 use Rattle.cue_table.proofs.Aligning.{merged_within, no_rest_there}
-use Rattle.cue_table.proofs.Changing.{adds, alters, at_form, first_form, first_smaller, goes_end, goes_on, goes_past, met_at, put_in, stays}
+use Rattle.cue_table.proofs.Changing.{adds, alters, at_form, first_form, first_smaller, goes_end, goes_on, goes_past, met_at, met_same, put_in, stays}
 use Rattle.cue_table.proofs.Fields.{fields_depth, form_take}
 use Rattle.cue_table.proofs.Finding.{branches_rise}
 use Rattle.cue_table.proofs.Merging.{merge_stay, met_taken}
@@ -168,13 +168,10 @@ lists::meet_element-returns-then-is_as_rest-2-clause-refused g t c =
 pub changes::change_by-place_from-requires-clause-rise : goal.changes::change_by-place_from-requires-clause-rise
 changes::change_by-place_from-requires-clause-rise g t c = branches_rise (IsRowKept g.R.Narrow.refuses g.R.Narrow.is_value) (branches c.args.left.now) c.requires.left
 
-pub changes::change_by-unify_child-requires : goal.changes::change_by-unify_child-requires
-changes::change_by-unify_child-requires g t c κs within =
-    let r = g.R.Narrow.refuses in
-    let v = g.R.Narrow.is_value in
+pub changes::change_by-unify_with-requires : goal.changes::change_by-unify_with-requires
+changes::change_by-unify_with-requires g t c κs within =
     let place : IsPlace c.args.left.now (step_of c.args.other.step) c.in-Ok.kept = subst (λ s. IsPlace c.args.left.now (step_of s) c.in-Ok.kept) c.step.ensures c.in-Ok.ensures in
-    let deep = ap tree_depth c.in_ok-other-in-Ok.ensures in
-    (omega (arith, c.decreases, deep), (within.0, (within.1, (at_form r v c.args.left.now c.in-Ok.kept c.branch_at.result.now c.requires.left place.in_range c.branch_at.ensures, subst (IsTree (IsRowKept r v)) (sym c.in_ok-other-in-Ok.ensures) c.requires.right))))
+    (omega (arith, c.decreases), (within.0, (within.1, (at_form g.R.Narrow.refuses g.R.Narrow.is_value c.args.left.now c.in-Ok.kept c.branch_at.result.now c.requires.left place.in_range c.branch_at.ensures, c.requires.right))))
 
 pub changes::change_by-returns-in_default : goal.changes::change_by-returns-in_default
 changes::change_by-returns-in_default g t c =
@@ -182,8 +179,7 @@ changes::change_by-returns-in_default g t c =
     let place : IsPlace c.args.left.now (step_of c.args.other.step) c.in-Ok.kept = subst (λ s. IsPlace c.args.left.now (step_of s) c.in-Ok.kept) c.step.ensures c.in-Ok.ensures in
     let d = c.branch_at.result.now in (
       stays r g.R.Narrow.is_value c.args.left.now c.args.other d c.in-Ok.kept place c.branch_at.ensures
-          (subst (λ n. IsMet r d.node n d.node) c.in_ok-other-in-Ok.ensures
-          (subst (λ met. IsMet r d.node c.in_ok-other-in-Ok.other (or_old met d).node) c.in_default.is c.in_ok-child-in-Ok.ensures.refused)),
+          (subst (λ met. IsMet r d.node c.args.other.node (or_old met d).node) c.in_default.is c.in_ok-child-in-Ok.ensures.refused),
       rw add-one (passed c.args.left.now (step_of c.args.other.step) c.in-Ok.kept place),
     )
 
@@ -201,8 +197,21 @@ changes::change_by-returns-in-Some g t c =
     alters r v c.args.left.now c.args.other d e c.in-Ok.kept c.requires.left place c.branch_at.ensures
     (subst (λ met. (or_old met d).step ≡ d.step) c.in-Some.is c.in_ok-child-in-Ok.ensures.step)
     (subst (λ met. IsTree (IsRowKept r v) (or_old met d).node) c.in-Some.is c.in_ok-child-in-Ok.ensures.form)
-    (subst (λ n. IsMet r d.node n e.node) c.in_ok-other-in-Ok.ensures
-    (subst (λ met. IsMet r d.node c.in_ok-other-in-Ok.other (or_old met d).node) c.in-Some.is c.in_ok-child-in-Ok.ensures.refused))
+    (subst (λ met. IsMet r d.node c.args.other.node (or_old met d).node) c.in-Some.is c.in_ok-child-in-Ok.ensures.refused)
+
+pub changes::unify_with-unify_child-requires : goal.changes::unify_with-unify_child-requires
+changes::unify_with-unify_child-requires g t c κs within =
+    let deep = ap tree_depth c.in_ok-node.ensures in
+    (omega (arith, c.decreases, deep), (within.0, (within.1, (c.requires.left, subst (IsTree (IsRowKept g.R.Narrow.refuses g.R.Narrow.is_value)) (sym c.in_ok-node.ensures) c.requires.right))))
+
+pub changes::unify_with-returns-then-is_same_leaf-clause-refused : goal.changes::unify_with-returns-then-is_same_leaf-clause-refused
+changes::unify_with-returns-then-is_same_leaf-clause-refused g t c = met_same g.R.Narrow.refuses c.args.left.now.node c.args.other.node (c.is_same_leaf.ensures c.if-is_same_leaf.true)
+
+pub changes::unify_with-returns-clause-refused : goal.changes::unify_with-returns-clause-refused
+changes::unify_with-returns-clause-refused g t c =
+    let r = g.R.Narrow.refuses in
+    let left = c.args.left.now in
+    IfOk-weaker c.unify_child.result _ _ (λ met h. subst (λ n. IsMet r left.node n (or_old met left).node) c.in_ok-node.ensures h) c.unify_child.ensures.refused
 
 pub changes::changes-change_by-requires : goal.changes::changes-change_by-requires
 changes::changes-change_by-requires g t c κs within =

@@ -15,7 +15,10 @@ abbrev pub decreases-meet::meet_child : goal.decreases-meet::meet_child
 decreases-meet::meet_child g l = 8 * tree_depth l.right + 8
 
 abbrev pub decreases-changes::change_by : goal.decreases-changes::change_by
-decreases-changes::change_by g l = 8 * tree_depth l.other.node + 8
+decreases-changes::change_by g l = 8 * tree_depth l.other.node + 9
+
+abbrev pub decreases-changes::unify_with : goal.decreases-changes::unify_with
+decreases-changes::unify_with g l = 8 * tree_depth l.other.node + 8
 
 abbrev pub decreases-meet::unify_child : goal.decreases-meet::unify_child
 decreases-meet::unify_child g l = 8 * tree_depth l.right + 7

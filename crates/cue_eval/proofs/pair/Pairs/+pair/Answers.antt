@@ -11,6 +11,11 @@ use Rattle.cue_scope.proofs.Walking.{at_hand}
 use Rattle.cue_eval.specs.Inner.Known.{core_of}
 use Rattle.cue_eval.specs.Sets.{integer_alone}
 use Rattle.cue_eval.specs.Pairs.{pair, plain_pair}
+use Rattle.std.specs.Prelude.{IfSome}
+use Rattle.cue_sets.specs.Texts.{is_listed}
+use Rattle.cue_scalars.specs.Pairs.{disjunction}
+use Rattle.cue_eval.specs.Inner.Written.{AreTextTerms}
+use Rattle.cue_eval.proofs.TextTerms.{text_disjunction}
 use Rattle.cue_eval.proofs.Pairing.{PairingParts, PairingTerms, part_can, part_more, term_can, term_more}
 use Rattle.cue_eval.proofs.pair.Pairs.+pair.Goals as goal
 
@@ -54,3 +59,9 @@ disjunction-loop-term-preserved t c =
     subst (λ xs. PairingTerms c.args.self.now xs c.args.terms.now (branches_of_list (drop (c.loop-term.term-index + 1) c.args.terms.now))) (sym c.in_ok-push.ensures.items)
     (term_more c.args.self.now _ c.args.terms.now _ c.term-item.result _ c.in_ok-pair.pair c.loop-term.invariant
     (at_hand c.args.terms.now c.loop-term.term-index c.term-item.result c.loop-term-test.true c.term-item.is) c.in_ok-pair.ensures)
+
+pub disjunction-returns-in-Some-set_of_texts : goal.disjunction-returns-in-Some-set_of_texts
+disjunction-returns-in-Some-set_of_texts t c =
+    let texts = c.in-Some.texts.items in
+    let terms : AreTextTerms c.args.terms.now texts = subst (λ found. IfSome found (λ all. AreTextTerms c.args.terms.now all.items)) c.in-Some.is c.in_ok-texts.ensures in
+    c.of_texts.ensures (is_listed texts) (λ text. c.in-Some-set_of_texts.ensures text) ∙ sym (text_disjunction texts) ∙ ap disjunction (sym (terms c.args.self.now))

@@ -20,6 +20,9 @@ use Rattle.cue_eval.specs.Inner.Ready.{all_definitions, members_of, AreKnown, Is
 use Rattle.cue_eval.proofs.LiteralTables.{struct_result, close_result, ElementsAnswer, elements_table, list_answers}
 use Rattle.cue_eval.proofs.Walks.{entry_first, definition_first, field_first, Gathering, gathering_none, ellipsis_passed, definition_passed, field_ready, field_within, field_gathered, fields_gathered, field_made, nested_depth, within_depth, none_behind}
 use Rattle.cue_eval.proofs.Joined.{part_pairable}
+use Rattle.std.specs.Prelude.{IfSome}
+use Rattle.cue_eval.specs.Inner.Written.{IsAllButTexts}
+use Rattle.cue_eval.proofs.OtherTexts.{others_result}
 use Rattle.cue_eval.proofs.Repeated.{Joining, joining_none, joined_ready, table_joined, scalar_joined, name_joined, named_same, joined_result}
 use Rattle.cue_lattice.specs.Question.{SameAnswers}
 use Rattle.cue_eval.specs.Inner.Gathered.{TreeRefusals, FurtherRefuse}
@@ -27,7 +30,7 @@ use Rattle.cue_eval.proofs.Gathering.{further_answers}
 use Rattle.cue_eval.proofs.Listings.{none_counted, count_of, Listing, listing_none, element_ready, element_listed, elements_listed, all_listed, elements_few, rest_ready, elements_ready}
 use Rattle.cue_eval.proofs.Regular.{fields_ready, struct_ready}
 use Rattle.cue_eval.proofs.tables.TableBuilder.+rows.Goals as goal
-use Rattle.cue_eval.proofs.tables.TableBuilder.+rows.Goals.{conjunction-then-is_scalar_part+in_ok-pair+in_ok-push, conjunction-else-is_scalar_part+in-Some+in_ok-push-in-Some, conjunction-else-is_scalar_part+in-None+in_ok-rows-in-None+in_ok-push-in-None, fields-in-Ellipsis, fields-in-Definition, fields-in-Field+in_ok-field-in-Field+in_ok-push-in-Field}
+use Rattle.cue_eval.proofs.tables.TableBuilder.+rows.Goals.{conjunction-then-is_scalar_part+in_ok-pair+in_ok-push, conjunction-else-is_scalar_part+in-Some-number_of+in_ok-push-in-Some-number_of, conjunction-else-is_scalar_part+in-None+in_ok-rows-in-None+in_ok-push-in-None, fields-in-Ellipsis, fields-in-Definition, fields-in-Field+in_ok-field-in-Field+in_ok-push-in-Field}
 
 pub rows-literal-requires : goal.rows-literal-requires
 rows-literal-requires t c = (
@@ -53,6 +56,11 @@ pub literal-returns-clause-answers : goal.literal-returns-clause-answers
 literal-returns-clause-answers t c =
     struct_result c.struct_of.result (members_of c.args.self.now (tree.entries c.args.declarations.now)) c.in_ok-fields.fields.items c.all-labels.result
     c.all-labels.ensures c.struct_of.ensures.answers c.in_ok-fields.ensures
+
+pub conjunction-returns-in-Some-clause-answers : goal.conjunction-returns-in-Some-clause-answers
+conjunction-returns-in-Some-clause-answers t c =
+    let are : IsAllButTexts c.args.parts.now c.in-Some.valued = subst (λ found. IfSome found (IsAllButTexts c.args.parts.now)) c.in-Some.is c.in_ok-valued.ensures in
+    others_result c.scalar_table.result c.args.self.now.pairs c.args.parts.now c.in-Some.valued are c.scalar_table.ensures.answers
 
 pub conjunction-loop-part-init : goal.conjunction-loop-part-init
 conjunction-loop-part-init t c = rw (c.new-tables.ensures.items, c.new-scalars.ensures.items, c.new-numbers.ensures.items) (joining_none c.args.self.now c.args.parts.now c.requires)
@@ -86,9 +94,9 @@ conjunction-loop-part-preserved t c =
       | conjunction-then-is_scalar_part+in_ok-pair+in_ok-push w ↦
           rw (w.tables-is, w.scalars-is, w.numbers-is) (subst (λ vs. Joining known tables vs numbers all rest) (sym w.in_ok-push.ensures.items)
           (scalar_joined known tables scalars numbers all _ c.part-item.result rest w.in_ok-pair.field-0 c.loop-part.invariant left (c.is_scalar_part.ensures w.if-is_scalar_part.true) w.in_ok-pair.ensures))
-      | conjunction-else-is_scalar_part+in-Some+in_ok-push-in-Some w ↦
-          rw (w.tables-is, w.scalars-is, w.numbers-is) (subst (λ is. Joining known tables scalars is all rest) (sym w.in_ok-push-in-Some.ensures.items)
-          (name_joined known tables scalars numbers all _ c.part-item.result rest w.in-Some.number c.loop-part.invariant left w.in-Some.ensures))
+      | conjunction-else-is_scalar_part+in-Some-number_of+in_ok-push-in-Some-number_of w ↦
+          rw (w.tables-is, w.scalars-is, w.numbers-is) (subst (λ is. Joining known tables scalars is all rest) (sym w.in_ok-push-in-Some-number_of.ensures.items)
+          (name_joined known tables scalars numbers all _ c.part-item.result rest w.in-Some-number_of.number c.loop-part.invariant left w.in-Some-number_of.ensures))
       | conjunction-else-is_scalar_part+in-None+in_ok-rows-in-None+in_ok-push-in-None w ↦
           rw (w.tables-is, w.scalars-is, w.numbers-is) (subst (λ xs. Joining known xs scalars numbers all rest) (sym w.in_ok-push-in-None.ensures.items)
           (table_joined known tables scalars numbers all _ c.part-item.result rest w.in_ok-rows-in-None.field-0 c.loop-part.invariant left w.in_ok-rows-in-None.ensures.answers))
