@@ -4,7 +4,7 @@ use Rattle.sqlite_disk.specs.Disk.{Holds, Torn, Follows, Only}
 use Rattle.cue_journal.specs.Frames.{file_head, file_entries, scan, Bring, IsSound}
 use Rattle.cue_journal.specs.Settled.{IsJournalSettled, IsKeptOrCleared}
 use Rattle.cue_journal.proofs.Scanning.{bring_nothing, scan-none}
-use Rattle.cue_journal.proofs.Files.{length-head, kept_or_cleared, entries_there, ends_there, zero_shut}
+use Rattle.cue_journal.proofs.Files.{length-head, kept_or_cleared, entries_there, ends_there, zero_shut, on_disk, settled_left, entries_left}
 use Rattle.cue_journal.proofs.Torn.{torn_gate}
 
 -- a file with frames, of which the first gate alone may be another
@@ -25,7 +25,8 @@ clear_left seen may end c s some torn =
 pub clear_crash : (seen : List ℕ) (may after : List ℕ → Type 0) (end : ℕ) → IsJournalSettled seen may end → 19 < end → Follows (Torn 19 1) may after → (c : List ℕ) → after c → IsKeptOrCleared (file_entries seen) c × IsSound c
 clear_crash seen may after end s some follows c left =
     let from = follows c left in
-    clear_left seen may end c s some (subst (λ f. Torn 19 1 f c) (s.durable from.0 from.1) from.2)
+    let there = clear_left from.0 (λ d. d ≡ from.0) end c (settled_left seen may end s from.0 from.1) some from.2 in
+    (subst (λ (l : List (List ℕ)). IsKeptOrCleared l c) (entries_left seen may end s from.0 from.1) there.0, there.1)
 
 pub clear_ok : (seen new : List ℕ) (may after : List ℕ → Type 0) (end : ℕ) → IsJournalSettled seen may end → 19 < end → Torn 19 1 seen new → Holds new 19 (0 ∷ []) → Only new after → IsJournalSettled new after 19 × (file_entries new ≡ [])
 clear_ok seen new may after end s some torn holds only =
@@ -33,10 +34,7 @@ clear_ok seen new may after end s some torn holds only =
     let behind = there.1 ++ s.ends.gate ∷ s.ends.junk in
     let zero_first : get_or new 19 0 ≡ 0 = holds.each 0 (omega arith) in
     let is : new ≡ (file_head ++ []) ++ 0 ∷ behind = there.3 ∙ ap (λ n. file_head ++ n ∷ behind) zero_first ∙ ap (λ (l : List ℕ). l ++ 0 ∷ behind) (sym (append-nil file_head)) in (
-      record {
-        ends = ends_there new [] behind [] 0 19 is bring_nothing zero_shut (sym length-head ∙ ap length (sym (append-nil file_head)));
-        durable = only;
-      },
+      on_disk new after 19 (ends_there new [] behind [] 0 19 is bring_nothing zero_shut (sym length-head ∙ ap length (sym (append-nil file_head)))) only,
       entries_there new [] behind [] 0 is bring_nothing zero_shut,
     )
 

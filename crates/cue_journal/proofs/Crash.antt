@@ -1,10 +1,10 @@
 -- What a crash leaves in each of the two steps of a commit.
-use Rattle.std.proofs.Common.{◌≡◌, ℕ, ◌+◌, ◌<◌, ◌^◌, List, [], ◌∷◌, ◌++◌, length, drop, get_or, sym, ◌∙◌, ap, subst, arith}
+use Rattle.std.proofs.Common.{◌≡◌, ℕ, ◌+◌, ◌<◌, ◌^◌, ◌≤◌, List, [], ◌∷◌, ◌++◌, length, drop, get_or, sym, ◌∙◌, ap, subst, arith}
 use Rattle.sqlite_disk.specs.Disk.{Holds, Torn, Cut, Follows, Only}
 use Rattle.cue_journal.specs.Blocks.{recovered_pieces}
-use Rattle.cue_journal.specs.Frames.{file_head, file_entries, sealed, IsSound}
+use Rattle.cue_journal.specs.Frames.{file_head, file_entries, sealed, Bring, IsSound}
 use Rattle.cue_journal.specs.Settled.{IsJournalSettled, IsStaged, IsBeforeOrAfter}
-use Rattle.cue_journal.proofs.Files.{entries_there, sound_there, ends_there, added, before_or_after, zero_shut, full_open}
+use Rattle.cue_journal.proofs.Files.{entries_there, sound_there, ends_there, added, before_or_after, zero_shut, full_open, on_disk, settled_left, entries_left}
 use Rattle.cue_journal.proofs.Torn.{torn_behind, cut_behind, written_behind, torn_gate}
 
 -- the front of a settled file
@@ -30,7 +30,10 @@ pub stage_crash : (seen : List ℕ) (may after : List ℕ → Type 0) (end n : �
     → (file_entries c ≡ file_entries seen) × IsSound c
 stage_crash seen may after end n s follows c left =
     let from = follows c left in
-    behind_shut seen c _ may end s (torn_shape seen c may end n s (subst (λ f. Torn (end + 1) n f c) (s.durable from.0 from.1) from.2))
+    let there = settled_left seen may end s from.0 from.1 in
+    let same = entries_left seen may end s from.0 from.1 in
+    let shut = behind_shut from.0 c _ (λ d. d ≡ from.0) end there (torn_shape from.0 c (λ d. d ≡ from.0) end n there from.2) in
+    (shut.0 ∙ same, shut.1)
 
 pub stage_ok : (seen new : List ℕ) (may after : List ℕ → Type 0) (end : ℕ) (bytes : List ℕ) → (s : IsJournalSettled seen may end) → Torn (end + 1) (length bytes) seen new → Holds new (end + 1) bytes → Only new after
     → IsStaged new after end (file_head ++ s.ends.frames) bytes
@@ -75,20 +78,16 @@ pub committed : (seen new : List ℕ) (may after : List ℕ → Type 0) (batch j
     → IsJournalSettled new after (end + (length batch + 17)) × (file_entries new ≡ file_entries seen ++ recovered_pieces batch)
 committed seen new may after batch junk end s fits is only =
     let there = added new s.ends.frames batch junk (file_entries seen) 255 s.ends.bring fits full_open is in (
-      record {
-        ends = ends_there new there.more there.junk (file_entries seen ++ recovered_pieces batch) 0 (end + (length batch + 17)) there.split there.bring zero_shut (ap (λ n. n + (length batch + 17)) s.ends.size ∙ sym there.size);
-        durable = only;
-      },
+      on_disk new after (end + (length batch + 17))
+          (ends_there new there.more there.junk (file_entries seen ++ recovered_pieces batch) 0 (end + (length batch + 17)) there.split there.bring zero_shut (ap (λ n. n + (length batch + 17)) s.ends.size ∙ sym there.size))
+          only,
       entries_there new there.more there.junk (file_entries seen ++ recovered_pieces batch) 0 there.split there.bring zero_shut,
     )
 
 settled_behind : (seen new rest : List ℕ) (may after : List ℕ → Type 0) (end : ℕ) → (s : IsJournalSettled seen may end) → new ≡ (file_head ++ s.ends.frames) ++ s.ends.gate ∷ rest → Only new after
     → IsJournalSettled new after end × (file_entries new ≡ file_entries seen)
 settled_behind seen new rest may after end s is only = (
-  record {
-    ends = ends_there new s.ends.frames rest (file_entries seen) s.ends.gate end is s.ends.bring s.ends.shut s.ends.size;
-    durable = only;
-  },
+  on_disk new after end (ends_there new s.ends.frames rest (file_entries seen) s.ends.gate end is s.ends.bring s.ends.shut s.ends.size) only,
   (behind_shut seen new rest may end s is).0,
 )
 
@@ -114,4 +113,43 @@ pub cut_crash : (seen : List ℕ) (may between after : List ℕ → Type 0) (end
 cut_crash seen may between after end n s torn cut c left =
     let from = cut c left in
     let first = torn from.0 from.1 in
-    behind_shut seen c _ may end s (cut_shape seen from.0 c may end n s (subst (λ f. Torn (end + 1) n f from.0) (s.durable first.0 first.1) first.2) from.2)
+    let there = settled_left seen may end s first.0 first.1 in
+    let same = entries_left seen may end s first.0 first.1 in
+    let shut = behind_shut first.0 c _ (λ d. d ≡ first.0) end there (cut_shape first.0 from.0 c (λ d. d ≡ first.0) end n there first.2 from.2) in
+    (shut.0 ∙ same, shut.1)
+
+-- what is written behind the gate, and does not have to reach the disk
+pub left_behind : (seen new : List ℕ) (may after : List ℕ → Type 0) (end n : ℕ) → IsJournalSettled seen may end → Torn (end + 1) n seen new → Follows (Torn (end + 1) n) may after
+    → IsJournalSettled new after end × (file_entries new ≡ file_entries seen)
+left_behind seen new may after end n s torn follows =
+    let front = file_head ++ s.ends.frames in
+    let shape = torn_shape seen new may end n s torn in
+    let same : file_entries new ≡ file_entries seen = (behind_shut seen new _ may end s shape).0 in (
+      record {
+        ends = record { frames = s.ends.frames; gate = s.ends.gate; junk = drop (length front + 1) new; split = shape; shut = s.ends.shut; size = s.ends.size; bring = subst (Bring s.ends.frames) (sym same) s.ends.bring };
+        durable = λ c left.
+            let from = follows c left in
+            let there = s.durable from.0 from.1 in
+            let at : Torn (length front + 1) n (front ++ s.ends.gate ∷ there.0) c = subst (λ e. Torn (e + 1) n (front ++ s.ends.gate ∷ there.0) c) s.ends.size (subst (λ f. Torn (end + 1) n f c) there.1 from.2) in
+            (drop (length front + 1) c, torn_behind front there.0 c s.ends.gate n at);
+      },
+      same,
+    )
+
+-- and what is cut behind it
+pub left_cut : (seen new : List ℕ) (may after : List ℕ → Type 0) (end n : ℕ) → IsJournalSettled seen may end → end + 1 ≤ n → Cut n seen new → Follows (Cut n) may after
+    → IsJournalSettled new after end × (file_entries new ≡ file_entries seen)
+left_cut seen new may after end n s le cut follows =
+    let front = file_head ++ s.ends.frames in
+    let low : length front + 1 ≤ n = omega (arith, s.ends.size, le) in
+    let shape = cut_behind front s.ends.junk new s.ends.gate n low (subst (λ f. Cut n f new) s.ends.split cut) in
+    let same : file_entries new ≡ file_entries seen = (behind_shut seen new _ may end s shape).0 in (
+      record {
+        ends = record { frames = s.ends.frames; gate = s.ends.gate; junk = drop (length front + 1) new; split = shape; shut = s.ends.shut; size = s.ends.size; bring = subst (Bring s.ends.frames) (sym same) s.ends.bring };
+        durable = λ c left.
+            let from = follows c left in
+            let there = s.durable from.0 from.1 in
+            (drop (length front + 1) c, cut_behind front there.0 c s.ends.gate n low (subst (λ f. Cut n f c) there.1 from.2));
+      },
+      same,
+    )

@@ -50,9 +50,6 @@ sound_there file frames rest ps gate is bring shut =
 pub ends_sound : (file : List ℕ) (end : ℕ) → EndsAt file end → IsSound file
 ends_sound file end e = sound_there file e.frames e.junk (file_entries file) e.gate e.split e.bring e.shut
 
-pub settled_sound : (seen : List ℕ) (may : List ℕ → Type 0) (end : ℕ) → IsJournalSettled seen may end → (c : List ℕ) → may c → IsSound c
-settled_sound seen may end s c left = subst IsSound (sym (s.durable c left)) (ends_sound seen end s.ends)
-
 pub ends_there : (file frames rest : List ℕ) (ps : List (List ℕ)) (gate end : ℕ) → file ≡ (file_head ++ frames) ++ gate ∷ rest → Bring frames ps → is_open_gate gate ≡ false → end ≡ length (file_head ++ frames) → EndsAt file end
 ends_there file frames rest ps gate end is bring shut size = record {
   frames = frames;
@@ -63,6 +60,23 @@ ends_there file frames rest ps gate end is bring shut size = record {
   size = size;
   bring = subst (Bring frames) (sym (entries_there file frames rest ps gate is bring shut)) bring;
 }
+
+pub settled_sound : (seen : List ℕ) (may : List ℕ → Type 0) (end : ℕ) → IsJournalSettled seen may end → (c : List ℕ) → may c → IsSound c
+settled_sound seen may end s c left = let there = s.durable c left in sound_there c s.ends.frames there.0 (file_entries seen) s.ends.gate there.1 s.ends.bring s.ends.shut
+
+-- a crash leaves its entries
+pub entries_left : (seen : List ℕ) (may : List ℕ → Type 0) (end : ℕ) → IsJournalSettled seen may end → (c : List ℕ) → may c → file_entries c ≡ file_entries seen
+entries_left seen may end s c left = let there = s.durable c left in entries_there c s.ends.frames there.0 (file_entries seen) s.ends.gate there.1 s.ends.bring s.ends.shut
+
+-- all of it is on the disk
+pub on_disk : (file : List ℕ) (may : List ℕ → Type 0) (end : ℕ) → EndsAt file end → Only file may → IsJournalSettled file may end
+on_disk file may end e only = record { ends = e; durable = λ c left. (e.junk, only c left ∙ e.split) }
+
+-- what a crash leaves is settled too
+pub settled_left : (seen : List ℕ) (may : List ℕ → Type 0) (end : ℕ) → IsJournalSettled seen may end → (c : List ℕ) → may c → IsJournalSettled c (λ d. d ≡ c) end
+settled_left seen may end s c left =
+    let there = s.durable c left in
+    on_disk c (λ d. d ≡ c) end (ends_there c s.ends.frames there.0 (file_entries seen) s.ends.gate end there.1 s.ends.bring s.ends.shut s.ends.size) (λ d is. is)
 
 same_bytes : (xs : List ℕ) → bytes_eq xs xs ≡ true
 same_bytes xs = (bytes_eq-Decides xs xs).1 refl
@@ -245,10 +259,7 @@ created seen new first after short torn holds only is =
     let none : drop (length first) new ≡ [] = drop_all (length first) new (omega (arith, short, long, torn.no_longer)) in
     let shape : new ≡ (file_head ++ []) ++ 0 ∷ [] =
     held new first 0 holds ∙ ap (λ (l : List ℕ). first ++ l) none ∙ append-nil first ∙ is ∙ ap (λ (l : List ℕ). l ++ 0 ∷ []) (sym (append-nil file_head)) in (
-      record {
-        ends = ends_there new [] [] [] 0 19 shape bring_nothing zero_shut (sym length-head ∙ ap length (sym (append-nil file_head)));
-        durable = only;
-      },
+      on_disk new after 19 (ends_there new [] [] [] 0 19 shape bring_nothing zero_shut (sym length-head ∙ ap length (sym (append-nil file_head)))) only,
       entries_there new [] [] [] 0 shape bring_nothing zero_shut,
     )
 

@@ -5,4 +5,5 @@ pub mod Found
 pub mod Pairs
 pub mod Reading
 pub mod Scanning
+pub mod Starts
 pub mod Torn

@@ -11,6 +11,10 @@ disk_of j = j.disk
 abbrev pub end_of : {D : Type 0} → Journal D → ℕ
 end_of j = j.end
 
+-- how many bytes the file has behind what counts, as far as the journal made them
+abbrev pub room_of : {D : Type 0} → Journal D → ℕ
+room_of j = j.room
+
 -- no commit of it has failed
 abbrev pub is_journal_open : {D : Type 0} → Journal D → Bool
 is_journal_open j = j.open

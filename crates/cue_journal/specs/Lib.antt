@@ -6,3 +6,4 @@ pub mod Frames
 pub mod Journals
 pub mod Pairs
 pub mod Settled
+pub mod Starts

@@ -43,3 +43,9 @@ IsCondensed spare growing batch left =
 -- a crash leaves damage in neither file
 abbrev pub LeaveSound : {D : Type 0} → (D → List ℕ → Type 0) → JournalPair D → Type 0
 LeaveSound may_leave p = LeavesSound (may_leave (disk_of (spare_of p))) × LeavesSound (may_leave (disk_of (growing_of p)))
+
+-- the entries are as they were, also after a crash
+pub record HasSameEntries {D : Type 0} (seen : D → List ℕ) (may_leave : D → List ℕ → Type 0) (old new : JournalPair D) : Type 0 where
+  pub ready : IsPairReady seen may_leave old → IsPairReady seen may_leave new
+  pub entries : IsPairReady seen may_leave old → entries_of_pair seen new ≡ entries_of_pair seen old
+  pub whole : is_whole new ≡ is_whole old

@@ -14,10 +14,10 @@ pub record EndsAt (file : List ℕ) (end : ℕ) : Type 0 where
   pub size : end ≡ length (file_head ++ frames)
   pub bring : Bring frames (file_entries file)
 
--- all of it on the disk
+-- Up to the closed gate all of it is on the disk. Behind that a crash may leave anything.
 pub record IsJournalSettled (seen : List ℕ) (may_leave : List ℕ → Type 0) (end : ℕ) : Type 0 where
   pub ends : EndsAt seen end
-  pub durable : Only seen may_leave
+  pub durable : (c : List ℕ) → may_leave c → (junk : List ℕ) × (c ≡ (file_head ++ ends.frames) ++ ends.gate ∷ junk)
 
 -- whole frames, a gate that is closed, and these bytes behind it
 pub record IsStaged (seen : List ℕ) (may_leave : List ℕ → Type 0) (end : ℕ) (front bytes : List ℕ) : Type 0 where

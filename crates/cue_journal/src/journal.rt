@@ -21,6 +21,9 @@ const FIRST: &[u8] = b"cuestore journal 2\n\0";
 /// No file of a journal is longer.
 const MOST: usize = 1 << 40;
 
+/// A file grows by so many bytes at least.
+const STEP: usize = 256 * 1024;
+
 /// A gate, the length and the checksum of a batch.
 pub(crate) const FRAME: usize = 17;
 
@@ -30,6 +33,8 @@ pub struct Journal<D: Disk> {
     disk: D,
     end: usize,
     open: bool,
+    /// So many bytes the file has behind the gate: a commit of as many wants no room.
+    room: usize,
 }
 
 /// Writes blocks behind the closed gate, and has them reach the disk. Till then, and after, they
@@ -88,6 +93,26 @@ fn fill<D: Disk>(disk: &mut D, end: usize, bytes: &[u8]) -> io::Result<Room>
     }
 }
 
+/// Writes bytes behind the closed gate, where they don't count, so that the file has them. Where the disk
+/// refuses that, the file keeps so many bytes behind the gate as it had.
+fn extend<D: Disk>(disk: &mut D, end: usize, had: usize, ahead: &[u8]) -> Room
+    requires usable { IsTrue (D.is_usable disk.old) }
+    requires end { end ≤ MOST }
+    requires had { had ≤ MOST }
+    ensures same { IsJournalSettled (D.seen disk.old) (D.may_leave disk.old) end
+        → IsJournalSettled (D.seen disk.new) (D.may_leave disk.new) end
+        × (file_entries (D.seen disk.new) ≡ file_entries (D.seen disk.old)) }
+    ensures usable { IsTrue (D.is_usable disk.new) }
+{
+    match disk.write_at(end + 1, ahead) {
+        Ok(()) => Room::Enough,
+        Err(error) => {
+            let _cut = disk.set_len(end + 1 + had);
+            Room::Refused(error)
+        }
+    }
+}
+
 /// Opens the gate, and has it reach the disk: from then on the blocks behind it count.
 fn open_gate<D: Disk>(disk: &mut D, end: usize) -> io::Result<()>
     requires usable { IsTrue (D.is_usable disk.old) }
@@ -120,7 +145,7 @@ fn close_first<D: Disk>(disk: &mut D) -> io::Result<()>
 }
 
 impl<D: Disk> Journal<D> {
-    ghost use Rattle.cue_journal.specs.Journals.{disk_of, end_of, is_journal_open, IsJournalReady};
+    ghost use Rattle.cue_journal.specs.Journals.{disk_of, end_of, room_of, is_journal_open, IsEnough, IsJournalReady};
 
     /// Adds the pieces of a batch, all of them or none. At `Ok` they are acknowledged: from then on
     /// each crash leaves a file that has them. At `Err` the journal is to be opened again. The
@@ -172,6 +197,7 @@ impl<D: Disk> Journal<D> {
             return Ok(());
         }
         close_first(&mut self.disk)?;
+        self.room = self.room.saturating_add(self.end - HEAD.len());
         self.end = HEAD.len();
         self.open = true;
         Ok(())
@@ -202,9 +228,60 @@ impl<D: Disk> Journal<D> {
         if !was_open || !self.disk.may_be_used() || self.end > MOST {
             return Err(ErrorKind::Other.into());
         }
+        self.room = 0;
         let room = fill(&mut self.disk, self.end, &batch.bytes)?;
         self.open = true;
         Ok(room)
+    }
+
+    /// Has the file have so many bytes behind what counts, so that a commit of a batch of as many, with
+    /// its frame, wants no more room. They don't count, and need not have reached the disk.
+    pub fn make_room(&mut self, alloc: Global, wanted: usize) -> Room
+        // No entry changes, nor what a crash leaves.
+        ensures same { IsJournalReady D.Disk.seen D.Disk.may_leave self.old
+            → IsJournalReady D.Disk.seen D.Disk.may_leave self.new
+            × (file_entries (D.Disk.seen (disk_of self.new)) ≡ file_entries (D.Disk.seen (disk_of self.old))) }
+        ensures open { is_journal_open self.new ≡ is_journal_open self.old }
+        ensures len { end_of self.new ≡ end_of self.old }
+        ensures room { IsEnough result → wanted ≤ room_of self.new }
+    {
+        if wanted <= self.room {
+            return Room::Enough;
+        }
+        if !self.disk.may_be_used() || self.end > MOST || self.room > MOST {
+            return Room::Refused(ErrorKind::Other.into());
+        }
+        let zeros = match vec![in alloc; 0; wanted.max(STEP)] {
+            Ok(zeros) => zeros,
+            Err(error) => return Room::Refused(io::Error::from(error)),
+        };
+        if let Room::Enough = self.lengthen(&zeros) {
+            return Room::Enough;
+        }
+        self.lengthen(&zeros[..wanted])
+    }
+
+    /// Has the file have these bytes behind what counts.
+    fn lengthen(&mut self, bytes: &[u8]) -> Room
+        requires usable { IsTrue (D.Disk.is_usable (disk_of self.old)) }
+        requires end { end_of self.old ≤ MOST }
+        requires had { room_of self.old ≤ MOST }
+        ensures same { IsJournalReady D.Disk.seen D.Disk.may_leave self.old
+            → IsJournalReady D.Disk.seen D.Disk.may_leave self.new
+            × (file_entries (D.Disk.seen (disk_of self.new)) ≡ file_entries (D.Disk.seen (disk_of self.old))) }
+        ensures open { is_journal_open self.new ≡ is_journal_open self.old }
+        ensures len { end_of self.new ≡ end_of self.old }
+        ensures enough { IsEnough result → room_of self.new ≡ length bytes.now }
+        ensures refused { ¬ IsEnough result → room_of self.new ≡ room_of self.old }
+        ensures usable { IsTrue (D.Disk.is_usable (disk_of self.new)) }
+    {
+        match extend(&mut self.disk, self.end, self.room, bytes) {
+            Room::Enough => {
+                self.room = bytes.len();
+                Room::Enough
+            }
+            refused => refused,
+        }
     }
 
     /// How many bytes the blocks that count have.
@@ -246,6 +323,7 @@ impl<D: Disk> Journal<D> {
         stage(&mut self.disk, self.end, &batch.bytes)?;
         open_gate(&mut self.disk, self.end)?;
         self.end += size + FRAME;
+        self.room = self.room.saturating_sub(size + FRAME);
         self.open = true;
         Ok(())
     }
@@ -318,17 +396,19 @@ pub fn recover<D: Disk>(alloc: Global, disk: &mut D) -> Result<(usize, Vec<Vec<u
 }
 
 impl<D: Disk> Journal<D> {
-    ghost use Rattle.cue_journal.specs.Journals.{disk_of, is_journal_open, IsJournalReady};
+    ghost use Rattle.cue_journal.specs.Journals.{disk_of, end_of, IsJournalReady};
 
     /// A journal over a file that was recovered, from where it goes on.
     pub fn new(disk: D, end: usize) -> Journal<D>
         ensures disk { disk_of result ≡ disk }
+        ensures end { end_of result ≡ end }
         ensures ready { IsJournalSettled (D.Disk.seen disk) (D.Disk.may_leave disk) end → IsJournalReady D.Disk.seen D.Disk.may_leave result }
     {
         Journal {
             disk,
             end,
             open: true,
+            room: 0,
         }
     }
 

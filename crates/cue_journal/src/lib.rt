@@ -6,9 +6,11 @@ mod frames;
 mod inspection;
 mod journal;
 mod pair;
+mod start;
 
 pub use blocks::{Batch, BlockError, read_pieces};
 pub use frames::{Unread, read_file};
 pub use inspection::{Inspection, inspect};
 pub use journal::{Journal, Room, recover};
 pub use pair::JournalPair;
+pub use start::{FileNumber, StartedPair, start_pair};

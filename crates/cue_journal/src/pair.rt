@@ -1,4 +1,4 @@
-ghost use Rattle.std.specs.Prelude.{◌≡◌, ◌++◌, ℕ, List, [], true, false, IfOk, OnOk, OnErr};
+ghost use Rattle.std.specs.Prelude.{◌≡◌, ◌≤◌, ◌++◌, ℕ, List, [], true, false, IfOk, OnOk, OnErr};
 ghost use Rattle.cue_journal.specs.Blocks.{recovered_pieces};
 ghost use Rattle.cue_journal.specs.Frames.{file_entries};
 ghost use Rattle.cue_journal.specs.Settled.{IsBatch};
@@ -7,6 +7,7 @@ ghost use Rattle.cue_journal.specs.Batches.{batch_bytes};
 use crate::blocks::Batch;
 use crate::journal::{Journal, Room};
 use sqlite_disk::Disk;
+use std::alloc::Global;
 use std::io;
 use std::io::ErrorKind;
 
@@ -21,8 +22,8 @@ pub struct JournalPair<D: Disk> {
 impl<D: Disk> JournalPair<D> {
     ghost use Rattle.cue_journal.specs.Journals.{IsJournalReady, disk_of, end_of};
     ghost use Rattle.cue_journal.specs.Pairs.{growing_of, spare_of, is_whole, entries_of_pair};
-    ghost use Rattle.cue_journal.specs.Pairs.{IsPairReady, MayLeave, IsCommitted, IsCondensed, LeaveSound};
-    ghost use Rattle.cue_journal.specs.Journals.{IsEnough};
+    ghost use Rattle.cue_journal.specs.Pairs.{IsPairReady, HasSameEntries, MayLeave, IsCommitted, IsCondensed, LeaveSound};
+    ghost use Rattle.cue_journal.specs.Journals.{IsEnough, room_of};
 
     /// Two journals that were recovered.
     pub fn new(growing: Journal<D>, spare: Journal<D>) -> JournalPair<D>
@@ -69,6 +70,15 @@ impl<D: Disk> JournalPair<D> {
             return Err(ErrorKind::Other.into());
         }
         self.growing.commit(batch)
+    }
+
+    /// Has the journal that grows have so many bytes behind what counts, so that a commit of a batch of as
+    /// many, with its frame, wants no more room. Answers whether there was room.
+    pub fn make_room(&mut self, alloc: Global, wanted: usize) -> Room
+        ensures same { HasSameEntries D.Disk.seen D.Disk.may_leave self.old self.new }
+        ensures room { IsEnough result → wanted ≤ room_of (growing_of self.new) }
+    {
+        self.growing.make_room(alloc, wanted)
     }
 
     /// Puts the entries of a batch, which stand for all there are, in the place of those of the

@@ -9,16 +9,37 @@ use Rattle.cue_journal.specs.Batches.{batch_bytes}
 use Rattle.cue_journal.specs.Journals.{disk_of, IsEnough}
 use Rattle.cue_journal.specs.declared.journal.Room.{Room}
 use Rattle.cue_journal.specs.declared.journal.Room.TheVariants.{Enough, Refused}
-use Rattle.cue_journal.specs.Pairs.{IsPairReady, IsCondensed, entries_of_pair, growing_of, spare_of}
+use Rattle.cue_journal.specs.Pairs.{IsPairReady, IsCondensed, MayLeave, entries_of_pair, growing_of, spare_of}
+use Rattle.cue_journal.specs.declared.pair.JournalPair.{JournalPair}
+use Rattle.cue_journal.proofs.Files.{entries_left}
 use Rattle.cue_service.specs.declared.site.Site.{Site}
 use Rattle.cue_service.specs.Entries.{StandFor}
 use Rattle.cue_service.specs.Sites.{IsConsistent}
-use Rattle.cue_service.proofs.Consistent.{no_batch, none_recovered, own_state, condensed_stands, committed}
+use Rattle.cue_service.specs.Inner.Rounds.{IsCondensedBy}
+use Rattle.cue_service.proofs.Consistent.{still_consistent, no_batch, none_recovered, own_state, condensed_stands, committed}
 
 never_ok : {P : Type 0} → false ≡ true → P
 never_ok failed = absurd cc
 
 module _ {D : Type 0} (seen : D → List ℕ) (may_leave : D → List ℕ → Type 0) (sound : IsSoundLanguage Table language) where
+  -- a crash leaves the entries of files that are as between two calls
+  left_as_is : (files : JournalPair D) (left : List (List ℕ)) → IsPairReady seen may_leave files → MayLeave may_leave files left → left ≡ entries_of_pair seen files
+  left_as_is files left ready may =
+      may.4
+      ∙ ap (λ (l : List (List ℕ)). l ++ file_entries may.1) (entries_left _ _ _ ready.spare.settled may.0 may.2)
+      ∙ ap (λ (l : List (List ℕ)). file_entries (seen (disk_of files.spare)) ++ l) (entries_left _ _ _ ready.growing.settled may.1 may.3)
+
+  -- no snapshot was written
+  pub not_condensed : (old new : Site D) → new.files ≡ old.files → new.desk.board ≡ old.desk.board → batch_bytes new.desk.batch ≡ batch_bytes old.desk.batch
+      → new.desk.pieces ≡ old.desk.pieces → IsCondensedBy seen may_leave old true new
+  not_condensed old new files table waits listed = record {
+    consistent = λ pieces stands empty before. still_consistent seen may_leave old new pieces pieces table waits files before;
+    crash = λ pieces empty before left may.
+        subst (λ (l : List (List ℕ)). StandFor l pieces) (sym (left_as_is old.files left before.ready (subst (λ (f : JournalPair D). MayLeave may_leave f left) files may))) before.disk;
+    broken_after = λ fails. never_ok (sym fails);
+    listed = listed;
+  }
+
   -- what is in the batch: one entry
   one_entry : (old batch bytes : List ℕ) → old ≡ [] → (IsBatch old → IsBatch batch × (recovered_pieces batch ≡ recovered_pieces old ++ (1 ∷ bytes) ∷ [])) → IsBatch batch × (recovered_pieces batch ≡ (1 ∷ bytes) ∷ [])
   one_entry old batch bytes empty added =

@@ -1,5 +1,5 @@
 -- What is answered to one who hands something in, and to others.
-use Rattle.std.proofs.Common.{◌≡◌, ◌↔◌, ◌⊎◌, ℕ, List, [], ◌∷◌, Bool, true, false, IsTrue, Result, Ok, Err, OnOk, sym, ◌∙◌, inl, inr}
+use Rattle.std.proofs.Common.{◌≡◌, ◌↔◌, ◌⊎◌, ℕ, List, [], ◌∷◌, Bool, true, false, IsTrue, Result, Ok, Err, OnOk, refl, sym, ◌∙◌, inl, inr}
 use Rattle.std.proofs.lemmas.Bool.{false≢true}
 use Rattle.http.specs.declared.request.Request.{Request}
 use Rattle.http.specs.Request.{body_of}
@@ -60,11 +60,24 @@ pub turned_down_if :
     → OnOk r (HasHead (status_of_refusal why.kind) (type_field plain_text ∷ []) response) → OnOk r (IsHandedToSite hand old request response (record mid { standing = standing }))
 turned_down_if (Err e) hand old mid standing request response allowed encoded why may write plain coded spared left is = tt
 turned_down_if (Ok x) hand old mid standing request response allowed encoded why may write plain coded spared left is =
-    inr (inr (record {
+    inr (inr (inl (record {
       lets = write.0 may;
       plain = is_none encoded plain coded;
       same = record { token = spared.token; table = spared.table; waits = spared.waits; pieces = spared.pieces };
       why = why;
       refused = left;
       answer = is;
-    }))
+    })))
+
+pub without_room_if :
+    {X E : Type 0} (r : Result X E) (hand : PieceKind) (old : SiteCore) (standing : Standing) (request : Request (List ℕ)) (response : Response) (allowed encoded : Bool)
+    → allowed ≡ true → (IsTrue allowed ↔ MayWrite old.token request) → encoded ≡ false → (IsTrue encoded ↔ HasEncodedBody request)
+    → OnOk r (HasHead 507 (type_field plain_text ∷ []) response) → OnOk r (IsHandedToSite hand old request response (record old { standing = standing }))
+without_room_if (Err e) hand old standing request response allowed encoded may write plain coded is = tt
+without_room_if (Ok x) hand old standing request response allowed encoded may write plain coded is =
+    inr (inr (inr (record {
+      lets = write.0 may;
+      plain = is_none encoded plain coded;
+      same = record { token = refl; table = refl; waits = refl; pieces = refl };
+      answer = is;
+    })))

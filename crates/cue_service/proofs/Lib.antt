@@ -15,5 +15,6 @@ pub mod Pulls
 pub mod Rounds
 pub mod Routes
 pub mod Sparing
+pub mod Starts
 pub mod Telling
 pub mod Worlds

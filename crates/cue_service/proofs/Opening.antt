@@ -30,6 +30,11 @@ pub not_failed : {X E P : Type 0} (r : Result X E) → is_err r ≡ false → On
 not_failed (Ok x) fine p = p
 not_failed (Err e) failed p = absurd cc
 
+-- and what one that failed does
+pub has_failed : {X E P : Type 0} (r : Result X E) → is_err r ≡ true → OnErr r P → P
+has_failed (Ok x) fine p = absurd cc
+has_failed (Err e) failed p = p
+
 pub took : {X E P : Type 0} (r : Result X E) → is_ok r ≡ true → OnOk r P → P
 took (Ok x) fine p = p
 took (Err e) failed p = absurd cc

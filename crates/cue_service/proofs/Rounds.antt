@@ -10,7 +10,9 @@ use Rattle.http_server.specs.Exchange.{Call, Chain}
 use Rattle.cue_lattice.specs.World.{Piece, IsInSet, text, state}
 use Rattle.cue_lattice.specs.declared.refusal.Kind.{Kind}
 use Rattle.cue_lattice.specs.declared.refusal.Kind.TheVariants as kinds
-use Rattle.cue_journal.specs.Pairs.{is_whole}
+use Rattle.cue_journal.specs.Blocks.{recovered_pieces}
+use Rattle.cue_journal.specs.Batches.{batch_bytes}
+use Rattle.cue_journal.specs.Pairs.{is_whole, HasSameEntries}
 use Rattle.cue_journal.specs.declared.pair.JournalPair.{JournalPair}
 use Rattle.cue_service.specs.declared.site.Site.{Site}
 use Rattle.cue_service.specs.declared.desk.SiteCore.{SiteCore}
@@ -34,7 +36,7 @@ use Rattle.cue_service.proofs.Listing.{listed_less}
 use Rattle.cue_service.proofs.Pulls.{entry_has}
 use Rattle.cue_service.proofs.Sparing.{spared, unanswered}
 use Rattle.cue_pieces.specs.Listed.{Listed}
-use Rattle.cue_service.specs.Entries.{entry_of, piece_of_entry}
+use Rattle.cue_service.specs.Entries.{entry_of, piece_of_entry, StandFor}
 use Rattle.std.specs.List.{Contains}
 
 not_acknowledged : (request : Request (List ℕ)) (response : Response) → response.status ≢ 204 → acknowledged_by (request, response) ≡ []
@@ -116,7 +118,8 @@ moves Pieces old new request response is a = told_pieces old new request respons
 moves (Take hand) old new request response is (inl (inl barred)) = nothing old new request response 401 barred.same barred.answer.status (omega arith)
 moves (Take hand) old new request response is (inl (inr encoded)) = nothing old new request response 415 encoded.same encoded.answer.status (omega arith)
 moves (Take hand) old new request response is (inr (inl done)) = handed_to hand old new request response is done.answer.status done.done
-moves (Take hand) old new request response is (inr (inr refused)) =
+moves (Take hand) old new request response is (inr (inr (inr full))) = nothing old new request response 507 full.same full.answer.0 (omega arith)
+moves (Take hand) old new request response is (inr (inr (inl refused))) =
     inr (inr (refused.same, not_acknowledged request response (λ e. refused_status refused.why.kind (sym refused.answer.0 ∙ e))))
 moves Health old new request response is a = nothing old new request response 200 a.0 a.1.status (omega arith)
 moves Metrics old new request response is a = nothing old new request response 200 a.0 a.1.0 (omega arith)
@@ -194,17 +197,17 @@ one_listed old new request response accepted answers before = by (moved old new 
     by (inr (inl known)) = subst P (sym known.2) (listed_known accepted known.0 new.pieces (known_has accepted old.pieces known.0 before known.1.kept) (subst (AreListed accepted) (sym known.1.same.pieces) before))
     by (inr (inr same)) = subst P (sym same.1) (listed_none accepted new.pieces (listed_less old.pieces new.pieces same.0.pieces accepted before))
 
-pub listed_still : {D : Type 0} (old called : Site D) (calls : List Call) (accepted : List Piece) → AreListed accepted old.desk.pieces → Chain AnswersAt old calls called
+pub listed_still : {D : Type 0} (seen : D → List ℕ) (may_leave : D → List ℕ → Type 0) (old called : Site D) (calls : List Call) (accepted : List Piece) → AreListed accepted old.desk.pieces → Chain (AnswersAt seen may_leave) old calls called
     → IsListedOf accepted (acknowledged_pieces calls) called.desk.pieces
-listed_still {D} old called [] accepted before same = (
+listed_still {D} seen may_leave old called [] accepted before same = (
   [],
   refl,
   λ other has. absurd has,
   subst (λ (s : Site D). AreListed (accepted ++ []) s.desk.pieces) (sym same) (subst (λ (l : List Piece). AreListed l old.desk.pieces) (sym (append-nil accepted)) before),
 )
-listed_still old called (call ∷ calls) accepted before chain =
+listed_still seen may_leave old called (call ∷ calls) accepted before chain =
     let here = one_listed old.desk chain.0.desk call.0 call.1 accepted chain.1.answer before in
-    let rest = listed_still chain.0 called calls (accepted ++ here.0) here.3 chain.2 in
+    let rest = listed_still seen may_leave chain.0 called calls (accepted ++ here.0) here.3 chain.2 in
     let joined : (accepted ++ here.0) ++ rest.0 ≡ accepted ++ (here.0 ++ rest.0) = append_assoc accepted here.0 rest.0 in (
       here.0 ++ rest.0,
       some_append here.0 rest.0 (acknowledged_by call) (acknowledged_pieces calls) here.1 rest.1,
@@ -214,19 +217,41 @@ listed_still old called (call ∷ calls) accepted before chain =
     )
 
 module _ {D : Type 0} (seen : D → List ℕ) (may_leave : D → List ℕ → Type 0) where
-  one_call : (old new : Site D) (request : Request (List ℕ)) (response : Response) (on_disk pieces : List Piece) → AnswersAt old request response new
+  -- the same site over files that were given room
+  abbrev pub roomed : Site D → JournalPair D → Site D
+  roomed old files = record { desk = old.desk; files = files; snapshots = old.snapshots; fault = old.fault }
+
+  pub roomed_consistent : (old : Site D) (files : JournalPair D) (on_disk pieces : List Piece) → HasSameEntries seen may_leave old.files files
+      → IsConsistent seen may_leave old on_disk pieces → IsConsistent seen may_leave (roomed old files) on_disk pieces
+  roomed_consistent old files on_disk pieces same before =
+      let entries = sym (same.entries before.ready) in
+      record {
+        ready = same.ready before.ready;
+        batch = before.batch;
+        held = before.held;
+        disk = subst (λ (l : List (List ℕ)). StandFor l on_disk) entries before.disk;
+        all = subst (λ (l : List (List ℕ)). StandFor (l ++ recovered_pieces (batch_bytes old.desk.batch)) pieces) entries before.all;
+      }
+
+  moved_site : (old new : Site D) (request : Request (List ℕ)) (response : Response) (on_disk pieces : List Piece) → Moves old.desk request response new.desk → new.files ≡ old.files
       → IsConsistent seen may_leave old on_disk pieces → IsConsistent seen may_leave new on_disk (pieces ++ acknowledged_by (request, response))
-  one_call old new request response on_disk pieces call before = by (moved old.desk new.desk request response call.answer)
+  moved_site old new request response on_disk pieces moves files before = by moves
     where
       P : List Piece → Type 0
       P more = IsConsistent seen may_leave new on_disk (pieces ++ more)
 
       by : Moves old.desk request response new.desk → P (acknowledged_by (request, response))
-      by (inl taken) = subst P (sym taken.2) (taken_consistent seen may_leave old new on_disk pieces taken.0 taken.1 call.files before)
-      by (inr (inl known)) = subst P (sym known.2) (known_consistent seen may_leave old new on_disk pieces known.0 known.1 call.files before)
-      by (inr (inr same)) = subst P (sym same.1) (subst (IsConsistent seen may_leave new on_disk) (sym (append-nil pieces)) (still_consistent seen may_leave old new on_disk pieces same.0.table same.0.waits call.files before))
+      by (inl taken) = subst P (sym taken.2) (taken_consistent seen may_leave old new on_disk pieces taken.0 taken.1 files before)
+      by (inr (inl known)) = subst P (sym known.2) (known_consistent seen may_leave old new on_disk pieces known.0 known.1 files before)
+      by (inr (inr same)) = subst P (sym same.1) (subst (IsConsistent seen may_leave new on_disk) (sym (append-nil pieces)) (still_consistent seen may_leave old new on_disk pieces same.0.table same.0.waits files before))
 
-  pub held : (old called : Site D) (calls : List Call) (on_disk pieces : List Piece) → IsConsistent seen may_leave old on_disk pieces → Chain AnswersAt old calls called
+  one_call : (old new : Site D) (request : Request (List ℕ)) (response : Response) (on_disk pieces : List Piece) → AnswersAt seen may_leave old request response new
+      → IsConsistent seen may_leave old on_disk pieces → IsConsistent seen may_leave new on_disk (pieces ++ acknowledged_by (request, response))
+  one_call old new request response on_disk pieces call before =
+      moved_site (roomed old new.files) new request response on_disk pieces (moved old.desk new.desk request response call.answer) refl
+      (roomed_consistent old new.files on_disk pieces call.files before)
+
+  pub held : (old called : Site D) (calls : List Call) (on_disk pieces : List Piece) → IsConsistent seen may_leave old on_disk pieces → Chain (AnswersAt seen may_leave) old calls called
       → IsConsistent seen may_leave called on_disk (pieces ++ acknowledged_pieces calls)
   held old called [] on_disk pieces before same =
       subst (λ (s : Site D). IsConsistent seen may_leave s on_disk (pieces ++ [])) (sym same) (subst (IsConsistent seen may_leave old on_disk) (sym (append-nil pieces)) before)
@@ -261,23 +286,23 @@ module _ {D : Type 0} (seen : D → List ℕ) (may_leave : D → List ℕ → Ty
             (rest.0, inr rest.1, rest.2, rest.3)
       ]
 
-  pub stands : (old called new : Site D) (calls : List Call) (on_disk pieces : List Piece) → IsConsistent seen may_leave old on_disk pieces → Chain AnswersAt old calls called
+  pub stands : (old called new : Site D) (calls : List Call) (on_disk pieces : List Piece) → IsConsistent seen may_leave old on_disk pieces → Chain (AnswersAt seen may_leave) old calls called
       → Settles seen may_leave called true new → IsConsistent seen may_leave new (pieces ++ acknowledged_pieces calls) (pieces ++ acknowledged_pieces calls)
   stands old called new calls on_disk pieces before chain settles = settles.consistent on_disk _ refl (held old called calls on_disk pieces before chain)
 
   pub survives : (old called new : Site D) (calls : List Call) (verdict : Bool) (on_disk pieces : List Piece) → IsConsistent seen may_leave old on_disk pieces
-      → Chain AnswersAt old calls called → Settles seen may_leave called verdict new → Leaves seen may_leave new on_disk (pieces ++ acknowledged_pieces calls)
+      → Chain (AnswersAt seen may_leave) old calls called → Settles seen may_leave called verdict new → Leaves seen may_leave new on_disk (pieces ++ acknowledged_pieces calls)
   survives old called new calls verdict on_disk pieces before chain settles = settles.crash on_disk _ (held old called calls on_disk pieces before chain)
 
-  files_kept : (old called : Site D) (calls : List Call) → Chain AnswersAt old calls called → called.files ≡ old.files
-  files_kept old called [] same = ap (λ (s : Site D). s.files) same
-  files_kept old called (call ∷ calls) chain = files_kept chain.0 called calls chain.2 ∙ chain.1.files
+  whole_kept : (old called : Site D) (calls : List Call) → Chain (AnswersAt seen may_leave) old calls called → is_whole called.files ≡ is_whole old.files
+  whole_kept old called [] same = ap (λ (s : Site D). is_whole s.files) same
+  whole_kept old called (call ∷ calls) chain = whole_kept chain.0 called calls chain.2 ∙ chain.1.files.whole
 
-  pub once : (before after called new : Site D) (calls : List Call) (verdict : Bool) → Settles seen may_leave before false after → Chain AnswersAt after calls called
+  pub once : (before after called new : Site D) (calls : List Call) (verdict : Bool) → Settles seen may_leave before false after → Chain (AnswersAt seen may_leave) after calls called
       → Settles seen may_leave called verdict new → verdict ≡ false
   once before after called new calls false failed chain settles = refl
   once before after called new calls true failed chain settles =
-      absurd (not_both_ways (is_whole after.files) (failed.broken_after refl) (ap (λ (f : JournalPair D). is_whole f) (sym (files_kept after called calls chain)) ∙ settles.whole_before refl))
+      absurd (not_both_ways (is_whole after.files) (failed.broken_after refl) (sym (whole_kept after called calls chain) ∙ settles.whole_before refl))
     where
       not_both_ways : (b : Bool) → b ≡ false → b ≡ true → ⊥
       not_both_ways b broken whole = cc

@@ -292,17 +292,17 @@ one_call sound site old new request response messages tables sets answers found 
     by (inr (inl known)) = takes_piece sound tables messages sets site old new (request, response) known.0 w found known.1.fits known.1.acceptable known.1.adds known.1.valid known.2
     by (inr (inr same)) = still same.0 same.1 (is_quiet_call old new request response answers)
 
-pub are_calls_events : {D : Type 0} → IsSoundLanguage Table language → AreCallsEvents D
-are_calls_events {D = D} sound number old called [] messages tables sets same found w = record {
+pub are_calls_events : {D : Type 0} → IsSoundLanguage Table language → (seen : D → List ℕ) (may_leave : D → List ℕ → Type 0) → AreCallsEvents seen may_leave
+are_calls_events {D = D} sound seen may_leave number old called [] messages tables sets same found w = record {
   events = [];
   messages' = messages;
   are = (refl, refl);
   comes = nothing tables messages messages sets number old.desk.board called.desk.board [] w found (ap (λ (s : Site D). s.desk.board) same) refl refl;
 }
-are_calls_events {D = D} sound number old called (call ∷ calls) messages tables sets chain found w =
+are_calls_events {D = D} sound seen may_leave number old called (call ∷ calls) messages tables sets chain found w =
     let between = chain.0.desk.board in
     let here = one_call sound number old.desk chain.0.desk call.0 call.1 messages tables sets chain.1.answer found w in
-    let next = are_calls_events sound number chain.0 called calls here.messages' (slice_set tables number between) (reach_sets sets here.events here.comes.0) chain.2 (get_again tables number old.desk.board between found) here.comes.2 in
+    let next = are_calls_events sound seen may_leave number chain.0 called calls here.messages' (slice_set tables number between) (reach_sets sets here.events here.comes.0) chain.2 (get_again tables number old.desk.board between found) here.comes.2 in
     record {
       events = here.events ++ next.events;
       messages' = next.messages';
@@ -311,8 +311,8 @@ are_calls_events {D = D} sound number old called (call ∷ calls) messages table
           (subst (λ ts. SiteEventsLeadTo (reach_sets sets here.events here.comes.0) next.events ts next.messages') (set_again tables number between called.desk.board) next.comes);
     }
 
-pub are_gathers_events : {D : Type 0} → IsSoundLanguage Table language → AreGathersEvents D
-are_gathers_events sound number old new bytes messages tables sets gathers found w = by gathers.gathers
+pub are_gathers_events : {D : Type 0} → IsSoundLanguage Table language → (seen : D → List ℕ) (may_leave : D → List ℕ → Type 0) → AreGathersEvents seen may_leave
+are_gathers_events sound seen may_leave number old new bytes messages tables sets gathers found w = by gathers.gathers
   where
     by : IsPieceTaken (state bytes) old.desk new.desk ⊎ IsSame old.desk new.desk → (new.desk.board ≡ old.desk.board) ⊎ TookOver number bytes messages tables sets new.desk.board
     by (inl taken) = inr (takes_state sound tables messages sets number old.desk.board new.desk.board bytes w found taken.fits taken.acceptable taken.adds taken.valid)
@@ -360,5 +360,5 @@ took_pieces sound (piece ∷ pieces) site old new messages tables sets gathers f
       record { events = rest.events; are = inl rest.are; comes = rest.comes }
 ]
 
-pub are_pieces_events : {D : Type 0} → IsSoundLanguage Table language → AreGatheredPiecesEvents D
-are_pieces_events sound number old new pieces messages tables sets gathers found w = took_pieces sound pieces number old.desk new.desk messages tables sets gathers.gathers found w
+pub are_pieces_events : {D : Type 0} → IsSoundLanguage Table language → (seen : D → List ℕ) (may_leave : D → List ℕ → Type 0) → AreGatheredPiecesEvents seen may_leave
+are_pieces_events sound seen may_leave number old new pieces messages tables sets gathers found w = took_pieces sound pieces number old.desk new.desk messages tables sets gathers.gathers found w

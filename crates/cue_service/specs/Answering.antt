@@ -121,12 +121,20 @@ pub record IsTurnedDown (piece : Piece) (old : SiteCore) (request : Request (Lis
   pub refused : IsLeftOut piece why
   pub answer : HasHead (status_of_refusal why.kind) (type_field plain_text ∷ []) response
 
+-- The disk has no room for a piece of one who may write: nothing changes.
+pub record IsWithoutRoom (old : SiteCore) (request : Request (List ℕ)) (response : Response) (new : SiteCore) : Type 0 where
+  pub lets : MayWrite old.token request
+  pub plain : ¬ HasEncodedBody request
+  pub same : IsSame old new
+  pub answer : HasHead 507 (type_field plain_text ∷ []) response
+
 -- something is handed in
 abbrev pub IsHandedToSite : PieceKind → SiteCore → Request (List ℕ) → Response → SiteCore → Type 0
 IsHandedToSite hand old request response new =
     let piece = piece_of_bytes hand (body_of request) in
     (IsUnauthorized old request response new ⊎ IsNotDecoded old request response new)
-    ⊎ (IsAcknowledged piece old request response new ⊎ IsTurnedDown piece old request response new)
+    ⊎ (IsAcknowledged piece old request response new
+    ⊎ (IsTurnedDown piece old request response new ⊎ IsWithoutRoom old request response new))
 
 -- Which status, which fields and which body come for which request.
 abbrev pub AnswersAs : Route → SiteCore → Request (List ℕ) → Response → SiteCore → Type 0

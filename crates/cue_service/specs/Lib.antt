@@ -13,6 +13,7 @@ pub mod Refusals
 pub mod Requests
 pub mod Sites
 pub mod Snapshots
+pub mod Starts
 pub mod Statuses
 pub mod Tags
 pub mod Worlds

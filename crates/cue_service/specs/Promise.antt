@@ -27,7 +27,7 @@ module _ {D : Type 0} (seen : D → List ℕ) (may_leave : D → List ℕ → Ty
   abbrev pub AreHeld : Type 0
   AreHeld =
       (old called : Site D) (calls : List Call) (on_disk pieces : List Piece)
-      → IsConsistent seen may_leave old on_disk pieces → Chain AnswersAt old calls called
+      → IsConsistent seen may_leave old on_disk pieces → Chain (AnswersAt seen may_leave) old calls called
       → IsConsistent seen may_leave called on_disk (pieces ++ acknowledged_pieces calls)
 
   -- It lists what it did, and behind that some of those acknowledged, in their order. Each that was
@@ -35,7 +35,7 @@ module _ {D : Type 0} (seen : D → List ℕ) (may_leave : D → List ℕ → Ty
   abbrev pub AreListedStill : Type 0
   AreListedStill =
       (old called : Site D) (calls : List Call) (accepted : List Piece)
-      → AreListed accepted old.desk.pieces → Chain AnswersAt old calls called
+      → AreListed accepted old.desk.pieces → Chain (AnswersAt seen may_leave) old calls called
       → (more : List Piece) × AreSomeOf more (acknowledged_pieces calls)
       × ((piece : Piece) → IsInSet (acknowledged_pieces calls) piece → IsInSet (accepted ++ more) piece)
       × AreListed (accepted ++ more) called.desk.pieces
@@ -45,7 +45,7 @@ module _ {D : Type 0} (seen : D → List ℕ) (may_leave : D → List ℕ → Ty
   AreGathered =
       (old new : Site D) (pulled on_disk pieces accepted : List Piece)
       → IsConsistent seen may_leave old on_disk pieces → AreListed accepted old.desk.pieces
-      → GathersPiecesAt pulled old new
+      → GathersPiecesAt seen may_leave pulled old new
       → (taken : List Piece) × AreSomeOf taken pulled
       × IsConsistent seen may_leave new on_disk (pieces ++ taken)
       × AreListed (accepted ++ taken) new.desk.pieces
@@ -54,7 +54,7 @@ module _ {D : Type 0} (seen : D → List ℕ) (may_leave : D → List ℕ → Ty
   abbrev pub Stands : Type 0
   Stands =
       (old called new : Site D) (calls : List Call) (on_disk pieces : List Piece)
-      → IsConsistent seen may_leave old on_disk pieces → Chain AnswersAt old calls called
+      → IsConsistent seen may_leave old on_disk pieces → Chain (AnswersAt seen may_leave) old calls called
       → Settles seen may_leave called true new
       → IsConsistent seen may_leave new (pieces ++ acknowledged_pieces calls) (pieces ++ acknowledged_pieces calls)
 
@@ -62,6 +62,6 @@ module _ {D : Type 0} (seen : D → List ℕ) (may_leave : D → List ℕ → Ty
   abbrev pub Survives : Type 0
   Survives =
       (old called new : Site D) (calls : List Call) (verdict : Bool) (on_disk pieces : List Piece)
-      → IsConsistent seen may_leave old on_disk pieces → Chain AnswersAt old calls called
+      → IsConsistent seen may_leave old on_disk pieces → Chain (AnswersAt seen may_leave) old calls called
       → Settles seen may_leave called verdict new
       → Leaves seen may_leave new on_disk (pieces ++ acknowledged_pieces calls)

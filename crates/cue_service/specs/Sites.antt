@@ -7,25 +7,25 @@ use Rattle.http_server.specs.declared.response.Response.{Response}
 use Rattle.cue_journal.specs.Blocks.{recovered_pieces}
 use Rattle.cue_journal.specs.Settled.{IsBatch}
 use Rattle.cue_journal.specs.Batches.{batch_bytes}
-use Rattle.cue_journal.specs.Pairs.{IsPairReady, MayLeave, entries_of_pair, is_whole}
+use Rattle.cue_journal.specs.Pairs.{IsPairReady, HasSameEntries, MayLeave, entries_of_pair, is_whole}
 use Rattle.cue_service.specs.declared.site.Site.{Site}
 use Rattle.cue_service.specs.Answering.{AnswersRequest, GathersState, GathersPieces, IsSame}
 use Rattle.cue_service.specs.Entries.{StandFor}
 
 -- the answer to a request, of the table that the site holds then
-pub record AnswersAt {D : Type 0} (old : Site D) (request : Request (List ℕ)) (response : Response) (new : Site D) : Type 0 where
+pub record AnswersAt {D : Type 0} (seen : D → List ℕ) (may_leave : D → List ℕ → Type 0) (old : Site D) (request : Request (List ℕ)) (response : Response) (new : Site D) : Type 0 where
   pub answer : AnswersRequest old.desk request response new.desk
-  pub files : new.files ≡ old.files
+  pub files : HasSameEntries seen may_leave old.files new.files
 
 -- the state of another site comes
-pub record GathersAt {D : Type 0} (bytes : List ℕ) (old new : Site D) : Type 0 where
+pub record GathersAt {D : Type 0} (seen : D → List ℕ) (may_leave : D → List ℕ → Type 0) (bytes : List ℕ) (old new : Site D) : Type 0 where
   pub gathers : GathersState bytes old.desk new.desk
-  pub files : new.files ≡ old.files
+  pub files : HasSameEntries seen may_leave old.files new.files
 
 -- pieces of another site come
-pub record GathersPiecesAt {D : Type 0} (pieces : List Piece) (old new : Site D) : Type 0 where
+pub record GathersPiecesAt {D : Type 0} (seen : D → List ℕ) (may_leave : D → List ℕ → Type 0) (pieces : List Piece) (old new : Site D) : Type 0 where
   pub gathers : GathersPieces pieces old.desk new.desk
-  pub files : new.files ≡ old.files
+  pub files : HasSameEntries seen may_leave old.files new.files
 
 -- only counts change
 pub record IsSiteUntouched {D : Type 0} (old new : Site D) : Type 0 where

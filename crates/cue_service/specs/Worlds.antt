@@ -84,22 +84,22 @@ pub record TookOver (site : ℕ) (bytes : List ℕ) (messages : List (List ℕ))
   pub comes : SiteEventsLeadTo sets events (slice_set tables site after) messages
 
 -- The calls of a site are events of any world that it is a site of.
-abbrev pub AreCallsEvents : (D : Type 0) → Type 0
-AreCallsEvents D =
+abbrev pub AreCallsEvents : {D : Type 0} (seen : D → List ℕ) (may_leave : D → List ℕ → Type 0) → Type 0
+AreCallsEvents {D} seen may_leave =
     (number : ℕ) (old called : Site D) (calls : List Call) (messages : List (List ℕ)) (tables : List Table) (sets : Sets)
-    → Chain AnswersAt old calls called → slice_get tables number ≡ Some old.desk.board → IsSiteWorld tables messages sets
+    → Chain (AnswersAt seen may_leave) old calls called → slice_get tables number ≡ Some old.desk.board → IsSiteWorld tables messages sets
     → HappenedAtSite number calls messages tables sets called.desk.board
 
 -- So is what it takes of another site's answer, or nothing changes.
-abbrev pub AreGathersEvents : (D : Type 0) → Type 0
-AreGathersEvents D =
+abbrev pub AreGathersEvents : {D : Type 0} (seen : D → List ℕ) (may_leave : D → List ℕ → Type 0) → Type 0
+AreGathersEvents {D} seen may_leave =
     (number : ℕ) (old new : Site D) (bytes : List ℕ) (messages : List (List ℕ)) (tables : List Table) (sets : Sets)
-    → GathersAt bytes old new → slice_get tables number ≡ Some old.desk.board → IsSiteWorld tables messages sets
+    → GathersAt seen may_leave bytes old new → slice_get tables number ≡ Some old.desk.board → IsSiteWorld tables messages sets
     → (new.desk.board ≡ old.desk.board) ⊎ TookOver number bytes messages tables sets new.desk.board
 
 -- So is what it takes of the pieces that another site accepted.
-abbrev pub AreGatheredPiecesEvents : (D : Type 0) → Type 0
-AreGatheredPiecesEvents D =
+abbrev pub AreGatheredPiecesEvents : {D : Type 0} (seen : D → List ℕ) (may_leave : D → List ℕ → Type 0) → Type 0
+AreGatheredPiecesEvents {D} seen may_leave =
     (number : ℕ) (old new : Site D) (pieces : List Piece) (messages : List (List ℕ)) (tables : List Table) (sets : Sets)
-    → GathersPiecesAt pieces old new → slice_get tables number ≡ Some old.desk.board → IsSiteWorld tables messages sets
+    → GathersPiecesAt seen may_leave pieces old new → slice_get tables number ≡ Some old.desk.board → IsSiteWorld tables messages sets
     → TookPieces number pieces messages tables sets new.desk.board

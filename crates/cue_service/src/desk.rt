@@ -20,7 +20,7 @@ use crate::editions::Editions;
 use crate::entries::submit_piece;
 use crate::listed::{answer_pieces, name_with_state};
 use crate::page::page;
-use crate::refusal::answer_refusal;
+use crate::refusal::{answer_no_room, answer_refusal};
 use crate::responses::{answer_body, answer_field, answer_status, answer_tagged, answer_unchanged};
 use crate::route::{PieceKind, Route, route_of};
 use crate::standing::Standing;
@@ -33,6 +33,7 @@ use cue_replica::Replica;
 use http::{HeaderValue, Request, StatusCode, header};
 use http_server::Response;
 use std::alloc::Global;
+use std::io;
 
 /// A site's table, the entries that wait to reach the disk, the pieces that it accepted since its
 /// start, and who may write.
@@ -118,13 +119,19 @@ impl SiteCore {
         }
     }
 
-    /// Answers a request. Where memory is wanting the answer is 507, and nothing changes.
-    pub(crate) fn answer(&mut self, request: &Request<Bytes>, response: &mut Response)
+    /// Answers a request. `full` says why the disk has no room for a piece. Where memory is wanting
+    /// the answer is 507, and nothing changes.
+    pub(crate) fn answer(
+        &mut self,
+        full: Option<io::Error>,
+        request: &Request<Bytes>,
+        response: &mut Response,
+    )
         requires { IsBlank response.old }
         ensures { AnswersRequest self.old request.now response.new self.new }
     {
         let route = route_of(request);
-        if let Ok(()) = self.answer_as(route, request, response) {
+        if let Ok(()) = self.answer_as(route, full, request, response) {
             return;
         }
         response.clear();
@@ -135,6 +142,7 @@ impl SiteCore {
     fn answer_as(
         &mut self,
         route: Route,
+        full: Option<io::Error>,
         request: &Request<Bytes>,
         response: &mut Response,
     ) -> Result<(), Memory>
@@ -152,7 +160,7 @@ impl SiteCore {
                 self.standing.note_pieces_sent(response.status);
                 Ok(())
             }
-            Route::Take(hand) => self.accept_request(hand, request, response),
+            Route::Take(hand) => self.accept_request(hand, full, request, response),
             Route::Health => {
                 answer_body(
                     response,
@@ -197,6 +205,7 @@ impl SiteCore {
     fn accept_request(
         &mut self,
         hand: PieceKind,
+        full: Option<io::Error>,
         request: &Request<Bytes>,
         response: &mut Response,
     ) -> Result<(), Memory>
@@ -211,6 +220,10 @@ impl SiteCore {
         if is_encoded(request) {
             let status = StatusCode::UNSUPPORTED_MEDIA_TYPE;
             return answer_field(response, status, header::ACCEPT_ENCODING, "identity");
+        }
+        if let Some(error) = full {
+            self.standing.note_no_room(error);
+            return answer_no_room(self.alloc, error, response);
         }
         let bytes = request.body().as_slice();
         match self.take_in(hand, bytes) {

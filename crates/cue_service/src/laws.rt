@@ -24,7 +24,7 @@ pub fn a_round_keeps_its_promise<D: Disk>()
     ensures crash { Survives D.Disk.seen D.Disk.may_leave }
     ensures once { (before after called new : Site D) (calls : List Call) (verdict : Bool)
         → Settles D.Disk.seen D.Disk.may_leave before false after
-        → Chain AnswersAt after calls called
+        → Chain (AnswersAt D.Disk.seen D.Disk.may_leave) after calls called
         → Settles D.Disk.seen D.Disk.may_leave called verdict new
         → verdict ≡ false }
 {}
@@ -36,7 +36,7 @@ pub fn a_round_keeps_its_promise<D: Disk>()
 ///
 /// It computes nothing: it states a law.
 pub fn calls_are_events<D: Disk>()
-    ensures calls { AreCallsEvents D }
-    ensures gathers { AreGathersEvents D }
-    ensures pieces { AreGatheredPiecesEvents D }
+    ensures calls { AreCallsEvents D.Disk.seen D.Disk.may_leave }
+    ensures gathers { AreGathersEvents D.Disk.seen D.Disk.may_leave }
+    ensures pieces { AreGatheredPiecesEvents D.Disk.seen D.Disk.may_leave }
 {}

@@ -22,6 +22,7 @@ mod shown;
 mod site;
 mod snapshots;
 mod standing;
+mod start;
 mod tag;
 
 pub use access::AccessToken;
@@ -32,3 +33,4 @@ pub use route::{PieceKind, Route};
 pub use shown::{Shown, is_hidden};
 pub use site::Site;
 pub use standing::{SourceStanding, Standing};
+pub use start::{StartError, start_site};

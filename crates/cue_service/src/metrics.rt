@@ -89,12 +89,32 @@ impl Standing {
         )
     }
 
+    /// The system's number why the last piece found no room.
+    fn room_error(&self) -> u64 {
+        match self.no_room {
+            Some(error) => error.raw_os_error().unwrap_or(0).unsigned_abs() as u64,
+            None => 0,
+        }
+    }
+
     fn add_pieces(&self, text: &mut String) -> Result<(), Memory> {
         gauge(
             text,
             "cuestored_journal_bytes",
             "Bytes of the journal that grows.",
             self.journal as u64,
+        )?;
+        counter(
+            text,
+            "cuestored_no_room_total",
+            "Pieces refused, since the disk had no room.",
+            self.without_room,
+        )?;
+        gauge(
+            text,
+            "cuestored_no_room_error",
+            "The system's number why the last piece found no room, and 0 once one is accepted.",
+            self.room_error(),
         )?;
         counter(
             text,

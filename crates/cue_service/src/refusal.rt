@@ -8,6 +8,7 @@ use cue_lattice::{Kind, Memory, Refusal};
 use http::StatusCode;
 use http_server::Response;
 use std::alloc::Global;
+use std::io;
 
 /// Answers that a piece is refused, by a line that says why.
 pub(crate) fn answer_refusal(
@@ -27,6 +28,21 @@ pub(crate) fn answer_refusal(
         "text/plain; charset=utf-8",
         body,
     )
+}
+
+/// Answers that the disk has no room for a piece, by a line that says why.
+pub(crate) fn answer_no_room(
+    alloc: Global,
+    why: io::Error,
+    response: &mut Response,
+) -> Result<(), Memory>
+    requires { IsBlank response.old }
+    ensures { OnOk result (HasHead 507 (type_field plain_text ∷ []) response.new) }
+{
+    let line = format!(in alloc; "no room: {why}\n")?;
+    let body = Bytes::from_string(line)?;
+    let status = StatusCode::INSUFFICIENT_STORAGE;
+    answer_body(response, status, "text/plain; charset=utf-8", body)
 }
 
 fn refusal_code(kind: Kind) -> StatusCode

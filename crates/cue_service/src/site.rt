@@ -3,7 +3,7 @@ ghost use Rattle.cue_lattice.specs.World.{Piece, state};
 ghost use Rattle.cue_replica.specs.Accepted.{IsOfPieces};
 ghost use Rattle.cue_journal.specs.Batches.{batch_bytes};
 ghost use Rattle.cue_journal.specs.Blocks.{recovered_pieces};
-ghost use Rattle.cue_journal.specs.Pairs.{IsPairReady, entries_of_pair, is_whole, MayLeave};
+ghost use Rattle.cue_journal.specs.Pairs.{IsPairReady, HasSameEntries, entries_of_pair, is_whole, MayLeave};
 ghost use Rattle.cue_service.specs.Editions.{IsEdition};
 ghost use Rattle.cue_service.specs.Entries.{pieces_of};
 ghost use Rattle.cue_service.specs.Answering.{IsSame};
@@ -13,7 +13,7 @@ ghost use Rattle.cue_service.specs.Pulls.{CoversPiece, CoversAll, IsOfListed};
 
 use crate::access::AccessToken;
 use crate::desk::SiteCore;
-use crate::route::seconds_in;
+use crate::route::{Route, route_of, seconds_in};
 use crate::snapshots::Snapshots;
 use crate::standing::Standing;
 use bytes::Bytes;
@@ -31,6 +31,9 @@ use std::io::ErrorKind;
 /// No entry of a journal has as many bytes.
 const LONGEST: u64 = 1 << 32;
 
+/// A piece takes no more bytes in a journal beside its own, with the frame of its round.
+const BESIDE: usize = 64;
+
 /// The first byte of an entry of state bytes.
 const STATE: u8 = 1;
 
@@ -40,7 +43,7 @@ pub struct Site<D: Disk> {
     desk: SiteCore,
     files: JournalPair<D>,
     snapshots: Snapshots,
-    /// Why a round did not settle.
+    /// Why a round did not settle, or a pull found no room.
     fault: Option<io::Error>,
 }
 
@@ -50,6 +53,14 @@ fn fault_of<T>(answer: &io::Result<T>) -> Option<io::Error> {
         Ok(_) => None,
         Err(error) => Some(*error),
     }
+}
+
+/// Whether an error says that a disk has no room, or takes no file of that length.
+fn is_want_of_room(error: io::Error) -> bool {
+    matches!(
+        error.kind(),
+        ErrorKind::StorageFull | ErrorKind::QuotaExceeded | ErrorKind::FileTooLarge
+    )
 }
 
 /// Notes what came of a snapshot of so many bytes.
@@ -88,18 +99,68 @@ impl<D: Disk> Site<D> {
             → (pieces : List Piece) → IsOfPieces board pieces
             → pieces ≡ pieces_of (entries_of_pair D.Disk.seen files)
             → IsConsistent D.Disk.seen D.Disk.may_leave result pieces pieces }
-        // It has accepted nothing yet.
+        // It has accepted nothing yet, in the run of this number.
         ensures listed { AreListed [] result.desk.pieces }
         // Its run has the number that it is given.
         ensures run { result.desk.pieces.run ≡ run }
         // And it wants the token that it is given.
         ensures token { result.desk.token ≡ token }
+        // Its files are those that it is given.
+        ensures files { result.files ≡ files }
     {
         Site {
             desk: SiteCore::new(alloc, board, token, standing, run),
             files,
             snapshots: Snapshots::new(snapshot),
             fault: None,
+        }
+    }
+
+    /// Makes room in the journal for all that waits, and for a piece or pieces of so many bytes more.
+    /// Answers why the disk has none. Any other failure the commit will find out.
+    fn make_room(&mut self, bytes: usize) -> Option<io::Error>
+        ensures files { HasSameEntries D.Disk.seen D.Disk.may_leave self.old.files self.new.files }
+        ensures desk { self.new.desk ≡ self.old.desk }
+    {
+        let wanted = self
+            .desk
+            .batch
+            .len()
+            .saturating_add(bytes)
+            .saturating_add(BESIDE);
+        match self.files.make_room(self.desk.alloc, wanted) {
+            Room::Refused(error) if is_want_of_room(error) => Some(error),
+            _ => None,
+        }
+    }
+
+    /// Makes room for the piece that a request brings. Answers why the disk has none.
+    fn make_room_for(&mut self, request: &Request<Bytes>) -> Option<io::Error>
+        ensures files { HasSameEntries D.Disk.seen D.Disk.may_leave self.old.files self.new.files }
+        ensures desk { self.new.desk ≡ self.old.desk }
+    {
+        match route_of(request) {
+            Route::Take(_) => self.make_room(request.body().len()),
+            _ => None,
+        }
+    }
+
+    /// Makes room for what another site sent, if anything. Answers whether there is room.
+    fn has_room(&mut self, bytes: usize) -> bool
+        ensures files { HasSameEntries D.Disk.seen D.Disk.may_leave self.old.files self.new.files }
+        ensures same { IsSame self.old.desk self.new.desk }
+        ensures desk { IsTrue result → self.new.desk ≡ self.old.desk }
+    {
+        if bytes == 0 {
+            return true;
+        }
+        match self.make_room(bytes) {
+            Some(error) => {
+                self.desk.standing.note_no_room(error);
+                self.fault = Some(error);
+                false
+            }
+            None => true,
         }
     }
 
@@ -160,7 +221,7 @@ impl<D: Disk> Site<D> {
 impl<D: Disk> Settle for Site<D> {
     ghost use Rattle.cue_service.specs.Sites.{AnswersAt, Settles};
 
-    ghost answers = { AnswersAt };
+    ghost answers = { AnswersAt D.Disk.seen D.Disk.may_leave };
 
     ghost settles = { Settles D.Disk.seen D.Disk.may_leave };
 
@@ -169,7 +230,8 @@ impl<D: Disk> Settle for Site<D> {
         request: &Request<Bytes>,
         response: &mut Response,
     ) -> Result<(), AllocError> {
-        self.desk.answer(request, response);
+        let full = self.make_room_for(request);
+        self.desk.answer(full, request, response);
         Ok(())
     }
 
@@ -186,20 +248,26 @@ impl<D: Disk> Gathers for Site<D> {
 
     /// Takes the state of another site, unless it brings nothing.
     fn pull_state(&mut self, bytes: &[u8]) -> bool
-        ensures gathers { GathersAt bytes.now self.old self.new }
+        ensures gathers { GathersAt D.Disk.seen D.Disk.may_leave bytes.now self.old self.new }
         // Where it went well the table refuses all that the state does.
         ensures brings { IsTrue result → CoversPiece self.new.desk.board (state bytes.now) }
     {
+        if !self.has_room(bytes.len()) {
+            return false;
+        }
         self.desk.gather(bytes)
     }
 
     /// Takes pieces that another site accepted, in its order.
     fn pull_pieces(&mut self, bytes: &[u8]) -> bool
-        ensures gathers { GathersPiecesAt (pieces_of (recovered_pieces bytes.now)) self.old self.new }
+        ensures gathers { GathersPiecesAt D.Disk.seen D.Disk.may_leave (pieces_of (recovered_pieces bytes.now)) self.old self.new }
         // Where it went well the table refuses all that the pieces do which a site accepts.
         ensures brings { IsTrue result → IsOfListed self.old.desk
             → CoversAll self.new.desk.board (pieces_of (recovered_pieces bytes.now)) }
     {
+        if !self.has_room(bytes.len()) {
+            return false;
+        }
         self.desk.gather_pieces(bytes)
     }
 
@@ -231,7 +299,7 @@ impl<D: Disk> Gathers for Site<D> {
         self.desk.board.tag().ok()
     }
 
-    /// Why the last round did not settle.
+    /// Why the last round did not settle, or the last pull found no room.
     fn fault(&mut self) -> io::Error
         ensures { IsSiteUntouched self.old self.new }
     {

@@ -44,6 +44,8 @@ enum Note {
     Forgotten(usize),
     Condensed(usize),
     NoSnapshot(io::Error),
+    NoRoom(io::Error),
+    Room,
     TooLong(u64),
 }
 
@@ -65,6 +67,10 @@ pub struct Standing {
     pub(crate) refused: [u64; MOST_KIND + 1],
     pub(crate) snapshots: u64,
     pub(crate) journal: usize,
+    /// Writes that were refused, since the disk had no room.
+    pub(crate) without_room: u64,
+    /// Why the disk had no room for the last piece, until one is accepted.
+    pub(crate) no_room: Option<io::Error>,
     notes: Vec<Note>,
 }
 
@@ -84,6 +90,8 @@ impl Standing {
             refused: [0; MOST_KIND + 1],
             snapshots: 0,
             journal: 0,
+            without_room: 0,
+            no_room: None,
             notes: Vec::new(alloc),
         }
     }
@@ -95,14 +103,17 @@ impl Standing {
     }
 
     pub(crate) fn note_taken(&mut self) {
+        self.note_room();
         self.taken = self.taken.saturating_add(1);
     }
 
     pub(crate) fn note_gathered(&mut self) {
+        self.note_room();
         self.gathered = self.gathered.saturating_add(1);
     }
 
     pub(crate) fn note_gathered_piece(&mut self) {
+        self.note_room();
         self.gathered_pieces = self.gathered_pieces.saturating_add(1);
     }
 
@@ -130,6 +141,22 @@ impl Standing {
     /// A snapshot could not be written.
     pub(crate) fn note_refused_snapshot(&mut self, error: io::Error) {
         self.note(Note::NoSnapshot(error));
+    }
+
+    /// The disk had no room for a piece.
+    pub(crate) fn note_no_room(&mut self, error: io::Error) {
+        self.without_room = self.without_room.saturating_add(1);
+        if self.no_room.is_none() {
+            self.note(Note::NoRoom(error));
+        }
+        self.no_room = Some(error);
+    }
+
+    /// The disk had room for a piece.
+    fn note_room(&mut self) {
+        if self.no_room.take().is_some() {
+            self.note(Note::Room);
+        }
     }
 
     /// A state has so many bytes, more than an entry of a journal.
@@ -202,6 +229,10 @@ impl Standing {
                 Note::NoSnapshot(error) => {
                     warn!(log; "the snapshot was not written, and the journal grows on: {error}")
                 }
+                Note::NoRoom(error) => {
+                    warn!(log; "no room for pieces, and none is accepted until there is: {error}")
+                }
+                Note::Room => info!(log; "there is room for pieces again"),
                 Note::TooLong(bytes) => {
                     warn!(log; "no snapshot of a state of {bytes} bytes: an entry has less than 4 GiB")
                 }

@@ -1,4 +1,4 @@
-ghost use Rattle.std.specs.Prelude.{◌≤◌, ◌↔◌, ◌⊎◌, IsTrue};
+ghost use Rattle.std.specs.Prelude.{◌↔◌, ◌⊎◌, IsTrue};
 
 /// Whether a site may listen: with a word anywhere, and else on a loopback address alone, since
 /// anybody who reaches it may write.
@@ -6,12 +6,4 @@ pub fn may_listen(has_word: bool, is_loopback: bool) -> bool
     ensures { IsTrue result ↔ (IsTrue has_word ⊎ IsTrue is_loopback) }
 {
     has_word || is_loopback
-}
-
-/// Whether the first of two journals, of so many bytes, grows, and the other is spare: the longer
-/// one does.
-pub fn grows(end: usize, other: usize) -> bool
-    ensures { IsTrue result ↔ (other ≤ end) }
-{
-    end >= other
 }

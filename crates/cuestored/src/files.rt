@@ -1,8 +1,12 @@
 use anyhow::Result;
-use cue_journal::{Batch, Journal, JournalPair, Unread, read_pieces, recover};
+use cue_http::Gathers;
+use cue_journal::{FileNumber, Unread, read_pieces, recover};
 use cue_replica::Replica;
-use cue_service::{AccessToken, Site, SourceStanding, Standing, add_entries, snapshot_in};
-use cue_settings::{Settings, SettingsError, grows};
+use cue_service::{
+    AccessToken, Site, SourceStanding, Standing, StartError, add_entries, start_site,
+};
+use cue_settings::{Settings, SettingsError};
+use http_server::Settle;
 use log::{Log, info};
 use sqlite_disk::{Disk, Files};
 use sqlite_std_file::{FileFrom, OpenError, Unknown, open};
@@ -105,17 +109,16 @@ pub(crate) fn recover_from(alloc: Global, path: &str, mut disk: File) -> Result<
     }
     match recover(alloc, &mut disk) {
         Ok((end, entries)) => Ok(Recovered { disk, end, entries }),
-        Err(Unread::Damaged(at)) => Err(SettingsError::damaged(alloc, path, at).into()),
-        Err(Unread::System(error)) => Err(SettingsError::system(alloc, "read", path, error).into()),
+        Err(why) => Err(error_of(alloc, path, why).into()),
     }
 }
 
-/// A table that takes in the entries of both files.
-fn board_of(alloc: Global, first: &[Vec<u8>], second: &[Vec<u8>]) -> Result<Replica> {
-    let mut board = Replica::new(alloc);
-    add_entries(&mut board, first).map_err(SettingsError::of_entry)?;
-    add_entries(&mut board, second).map_err(SettingsError::of_entry)?;
-    Ok(board)
+/// Why a file was not read.
+fn error_of(alloc: Global, path: &str, why: Unread) -> SettingsError {
+    match why {
+        Unread::Damaged(at) => SettingsError::damaged(alloc, path, at),
+        Unread::System(error) => SettingsError::system(alloc, "read", path, error),
+    }
 }
 
 /// Both files of a journal.
@@ -189,30 +192,19 @@ fn set_old_aside(rt: &HostRuntime, folder: &str, path: &str, beside: &str) -> Re
 
 /// Takes in the entries of a file of an older build that was set aside, has them reach the disk, and
 /// then calls the file `.converted`. Once more it brings nothing new.
-fn bring_over(
-    rt: &HostRuntime,
-    folder: &str,
-    path: &str,
-    files: &mut JournalPair<File>,
-    board: &mut Replica,
-) -> Result<()> {
+fn bring_over(rt: &HostRuntime, folder: &str, path: &str, site: &mut Site<File>) -> Result<()> {
     let alloc = rt.alloc();
     let old = format!(in alloc; "{path}.old")?;
     let bytes = bytes_of(rt, old.as_str())?;
     if bytes.is_empty() {
         return Ok(());
     }
-    let (entries, _) = read_pieces(alloc, &bytes)?;
-    add_entries(board, &entries).map_err(SettingsError::of_entry)?;
-    let mut batch = Batch::new(alloc);
-    for entry in &entries {
-        if let Some((first, rest)) = entry.split_first() {
-            if batch.push(*first, rest).is_err() {
-                return Err(SettingsError::OutOfMemory.into());
-            }
-        }
+    let (entries, end) = read_pieces(alloc, &bytes)?;
+    // A site passes over what it refuses, and such a file has no checksums.
+    add_entries(&mut Replica::new(alloc), &entries).map_err(SettingsError::of_entry)?;
+    if !site.pull_pieces(&bytes[..end]) || !site.settle() {
+        return Err(SettingsError::system(alloc, "write", path, site.fault()).into());
     }
-    on_file(alloc, "write", path, files.commit(&mut batch))?;
     let converted = format!(in alloc; "{path}.converted")?;
     rename(rt, folder, old.as_str(), converted.as_str())
 }
@@ -253,32 +245,28 @@ pub fn open_site<L: Log>(
         log: one,
         db: other,
     } = open_files(rt, path.as_str())?;
-    let one = recover_from(alloc, beside.as_str(), one)?;
-    let other = recover_from(alloc, path.as_str(), other)?;
-    let (growing, spare) = if grows(one.end, other.end) {
-        (one, other)
-    } else {
-        (other, one)
-    };
-    let mut board = board_of(alloc, &spare.entries, &growing.entries)?;
-    info!(log; "{} entries of {} bytes", spare.entries.len() + growing.entries.len(), board.state_size());
-    let snapshot = snapshot_in(&growing.entries);
-    let mut files = JournalPair::new(
-        Journal::new(growing.disk, growing.end),
-        Journal::new(spare.disk, spare.end),
-    );
-    bring_over(rt, words.data, path.as_str(), &mut files, &mut board)?;
-    bring_over(rt, words.data, beside.as_str(), &mut files, &mut board)?;
+    if !one.may_be_used() || !other.may_be_used() {
+        return Err(SettingsError::Unusable(path).into());
+    }
     let standing = new_standing(alloc, words)?;
-    Ok(Site::new(
-        alloc,
-        files,
-        snapshot,
-        board,
-        token,
-        standing,
-        run_number(rt)?,
-    ))
+    let mut site = match start_site(alloc, one, other, token, standing, run_number(rt)?) {
+        Ok(site) => site,
+        Err(StartError::File(FileNumber::First, why)) => return Err(error_of(
+            alloc,
+            beside.as_str(),
+            why,
+        ).into()),
+        Err(StartError::File(FileNumber::Second, why)) => return Err(error_of(
+            alloc,
+            path.as_str(),
+            why,
+        ).into()),
+        Err(StartError::Entry(why)) => return Err(SettingsError::of_entry(why).into()),
+    };
+    bring_over(rt, words.data, path.as_str(), &mut site)?;
+    bring_over(rt, words.data, beside.as_str(), &mut site)?;
+    info!(log; "the files in {} are read", words.data);
+    Ok(site)
 }
 
 /// A number for this run, which no other has that began at another moment.

@@ -1,7 +1,8 @@
 //! Journals over disks in memory, also over one that fails at a call.
 
 use cue_journal::{
-    Batch, BlockError, Journal, JournalPair, Room, Unread, read_file, read_pieces, recover,
+    Batch, BlockError, Journal, JournalPair, Room, Unread, inspect, read_file, read_pieces,
+    recover, start_pair,
 };
 use sqlite_disk::{Disk, Fuse, Memory};
 use std::alloc::Global;
@@ -112,6 +113,72 @@ fn each_bit_that_turns_is_reported_or_changes_nothing(rt: HostRuntime) -> Result
     }
     // All but the bits of the six gates and of the closed one behind them.
     assert_eq!(rt; reported, bytes.len().saturating_sub(7).saturating_mul(8));
+    Ok(())
+}
+
+/// A disk with these bytes.
+fn disk_of(alloc: Global, bytes: &[u8]) -> io::Result<Memory> {
+    let mut disk = Memory::new(alloc);
+    if disk.may_be_used() {
+        disk.write_at(0, bytes)?;
+    }
+    Ok(disk)
+}
+
+#[test]
+fn damage_is_told_with_what_stands_behind_it(rt: HostRuntime) -> Result<(), Fail> {
+    let mut bytes = six(rt.alloc())?;
+    let mut disk = disk_of(rt.alloc(), &bytes)?;
+    if disk.may_be_used() {
+        let found = inspect(rt.alloc(), &mut disk)?;
+        assert!(rt; found.damage.is_none() && found.behind.is_empty());
+        assert_eq!(rt; (found.length, found.entries.len()), (bytes.len(), 6));
+    }
+    // Each frame has 27 bytes: this bit is in the third entry.
+    turn(&mut bytes, 19 + 27 + 27 + 25, 0);
+    let mut disk = disk_of(rt.alloc(), &bytes)?;
+    if disk.may_be_used() {
+        let found = inspect(rt.alloc(), &mut disk)?;
+        assert_eq!(rt; found.damage, Some(19 + 27 + 27));
+        assert_eq!(rt; (found.entries.len(), found.behind.len()), (2, 3));
+    }
+    Ok(())
+}
+
+#[test]
+fn room_changes_no_entry(rt: HostRuntime) -> Result<(), Fail> {
+    let one = journal_on(rt.alloc(), Memory::new(rt.alloc()))?;
+    let other = journal_on(rt.alloc(), Memory::new(rt.alloc()))?;
+    let mut pair = JournalPair::new(one, other);
+    assert!(rt; matches!(pair.make_room(rt.alloc(), 1000), Room::Enough));
+    assert_eq!(rt; pair.journal_length(), 19);
+    pair.commit(&mut batch_of(rt.alloc(), 0, b"one")?)?;
+    assert_eq!(rt; pair.journal_length(), 19 + 17 + 9);
+    assert!(rt; matches!(pair.make_room(rt.alloc(), 300_000), Room::Enough));
+    pair.commit(&mut batch_of(rt.alloc(), 0, b"two")?)?;
+    assert_eq!(rt; pair.journal_length(), 19 + 2 * (17 + 9));
+    // Over a disk that fails at its next call there is no room, and the journal goes on.
+    let mut journal = journal_on(rt.alloc(), Fuse::new(Memory::new(rt.alloc()), 4))?;
+    assert!(rt; matches!(journal.make_room(rt.alloc(), 10), Room::Refused(_)));
+    assert!(rt; journal.is_open() && journal.len() == 19);
+    Ok(())
+}
+
+#[test]
+fn two_files_are_started(rt: HostRuntime) -> Result<(), Fail> {
+    let bytes = six(rt.alloc())?;
+    let (one, other) = (disk_of(rt.alloc(), &bytes)?, Memory::new(rt.alloc()));
+    if !one.may_be_used() || !other.may_be_used() {
+        return Ok(());
+    }
+    let Ok(started) = start_pair(rt.alloc(), one, other) else {
+        return Err(io::Error::from(io::ErrorKind::InvalidData).into());
+    };
+    assert_eq!(rt; (started.spare.len(), started.growing.len()), (0, 6));
+    assert_eq!(rt;
+        started.files.journal_length().saturating_add(1),
+        bytes.len()
+    );
     Ok(())
 }
 

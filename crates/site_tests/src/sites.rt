@@ -7,7 +7,7 @@ use cue_journal::{BlockError, JournalPair};
 use cue_replica::Replica;
 use cue_service::{
     AccessToken, Shown, Site, SiteCore, SourceStanding, Standing, add_entries, is_hidden,
-    snapshot_in,
+    snapshot_in, start_site,
 };
 use http::Request;
 use http_server::{Response, Settle};
@@ -97,6 +97,22 @@ const TWICE: &[Row] = &[
 #[test]
 fn a_known_piece_changes_nothing(rt: HostRuntime) -> Result<(), Fail> {
     assert!(rt; new_answers(rt.alloc(), None, TWICE)?);
+    Ok(())
+}
+
+#[test]
+fn a_site_starts_over_two_files(rt: HostRuntime) -> Result<(), Fail> {
+    let (one, other) = (Memory::new(rt.alloc()), Memory::new(rt.alloc()));
+    if !one.may_be_used() || !other.may_be_used() {
+        return Ok(());
+    }
+    let standing = Standing::new(rt.alloc(), Vec::new(rt.alloc()));
+    let Ok(mut site) = start_site(rt.alloc(), one, other, None, standing, RUN) else {
+        return Err(std::io::Error::from(std::io::ErrorKind::InvalidData).into());
+    };
+    let row: Row = ("POST /fragments", b"a: 1\n", 204, b"");
+    assert!(rt; answers(rt.alloc(), &mut site, &row)?);
+    assert!(rt; site.settle());
     Ok(())
 }
 

@@ -1,5 +1,8 @@
-use Rattle.std.proofs.Common.{◌≤◌, length, map, IsTrue, sym, subst, ap, ◌∙◌, arith}
-use Rattle.cue_journal.proofs.Files.{short_file, short_crash}
+use Rattle.std.proofs.Common.{◌≡◌, ◌≤◌, ℕ, List, length, map, IsTrue, sym, subst, ap, ◌∙◌, arith}
+use Rattle.sqlite_disk.specs.Disk.{Only}
+use Rattle.cue_journal.specs.Frames.{file_entries}
+use Rattle.cue_journal.specs.Settled.{EndsAt}
+use Rattle.cue_journal.proofs.Files.{short_file, short_crash, on_disk}
 use Rattle.cue_journal.proofs.journal.recover.Goals as goal
 
 pub returns-in_err-create-clause-crash : goal.returns-in_err-create-clause-crash
@@ -21,3 +24,13 @@ returns-then-len-clause-entries g c = λ clean.
     let done = c.in_ok-create.ensures.ok clean in
     let none = sym (short_file (g.D.Disk.seen c.args.disk.now) short) in
     (ap (map (λ v. v.items)) c.new.ensures.items ∙ none, done.0, done.1 ∙ none)
+
+pub returns-clause-entries : goal.returns-clause-entries
+returns-clause-entries g c = λ clean.
+    let is : c.deref.result.now ≡ g.D.Disk.seen c.args.disk.now = c.deref.ensures.value ∙ c.in_ok-bytes.ensures.bytes (c.sync.ensures.clean clean) in
+    let same : g.D.Disk.seen c.sync.new.self ≡ g.D.Disk.seen c.args.disk.now = c.sync.ensures.seen ∙ c.read_all.ensures.seen in
+    let only = subst (λ (f : List ℕ). Only f (g.D.Disk.may_leave c.sync.new.self)) (sym c.sync.ensures.seen) c.in_ok-sync.ensures.durable in (
+      c.in_ok-found.ensures.entries ∙ ap file_entries is,
+      on_disk (g.D.Disk.seen c.sync.new.self) (g.D.Disk.may_leave c.sync.new.self) c.in_ok-found.found.0 (subst (λ (f : List ℕ). EndsAt f c.in_ok-found.found.0) (is ∙ sym same) c.in_ok-found.ensures.end) only,
+      ap file_entries same,
+    )

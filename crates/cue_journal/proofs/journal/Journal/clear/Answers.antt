@@ -1,6 +1,6 @@
-use Rattle.std.proofs.Common.{refl, arith}
+use Rattle.std.proofs.Common.{refl, inl, arith}
 use Rattle.cue_journal.proofs.Clearing.{nothing_counts}
-use Rattle.cue_journal.proofs.Files.{settled_sound}
+use Rattle.cue_journal.proofs.Files.{settled_sound, entries_left}
 use Rattle.cue_journal.proofs.journal.Journal.clear.Goals as goal
 
 pub returns-in_err-close_first-clause-crash : goal.returns-in_err-close_first-clause-crash
@@ -28,3 +28,9 @@ returns-in_err-close_first-clause-sound g c = λ ready. c.close_first.ensures.so
 
 pub returns-clause-sound : goal.returns-clause-sound
 returns-clause-sound g c = λ ready. c.close_first.ensures.sound c.args.self.now.end ready.settled (omega (arith, c.if-self.false))
+
+pub returns-then-not-was_open-clause-crash : goal.returns-then-not-was_open-clause-crash
+returns-then-not-was_open-clause-crash g c = λ ready k left. inl (entries_left _ _ _ ready.settled k left)
+
+pub returns-then-self-clause-crash : goal.returns-then-self-clause-crash
+returns-then-self-clause-crash g c = λ ready k left. inl (entries_left _ _ _ ready.settled k left)

@@ -2,7 +2,7 @@ use Rattle.std.proofs.Common.{ℕ, ◌+◌, ◌<◌, ◌^◌, List, ◌∷◌, �
 use Rattle.cue_journal.specs.Frames.{file_head}
 use Rattle.cue_journal.specs.Settled.{IsJournalSettled}
 use Rattle.cue_journal.proofs.Crash.{gate_left, committed}
-use Rattle.cue_journal.proofs.Files.{settled_sound, length-sealed}
+use Rattle.cue_journal.proofs.Files.{settled_sound, entries_left, length-sealed}
 use Rattle.cue_journal.proofs.journal.Journal.write.Goals as goal
 
 pub returns-in_err-stage-clause-crash : goal.returns-in_err-stage-clause-crash
@@ -78,3 +78,12 @@ returns-in_err-seal-clause-sound g c = λ ready. settled_sound _ _ _ ready.settl
 
 pub stage-requires-clause-some : goal.stage-requires-clause-some
 stage-requires-clause-some g c = omega (arith, ap length (c.deref.ensures.value ∙ c.in_ok-seal.ensures), length-sealed c.args.batch.now.bytes.items)
+
+pub returns-then-not-was_open-clause-crash : goal.returns-then-not-was_open-clause-crash
+returns-then-not-was_open-clause-crash g c = λ ready b k left. inl (entries_left _ _ _ ready.settled k left)
+
+pub returns-then-is_empty-clause-crash : goal.returns-then-is_empty-clause-crash
+returns-then-is_empty-clause-crash g c = λ ready b k left. inl (entries_left _ _ _ ready.settled k left)
+
+pub returns-in_err-seal-clause-crash : goal.returns-in_err-seal-clause-crash
+returns-in_err-seal-clause-crash g c = λ ready b k left. inl (entries_left _ _ _ ready.settled k left)

@@ -3,7 +3,7 @@ use Rattle.http.specs.Request.{body_of}
 use Rattle.cue_service.specs.Answering.{IsPieceTaken, IsTagKnown}
 use Rattle.cue_service.specs.Refusals.{IsLeftOut}
 use Rattle.cue_service.specs.Requests.{piece_of_bytes}
-use Rattle.cue_service.proofs.Handing.{acknowledged, turned_down_if}
+use Rattle.cue_service.proofs.Handing.{acknowledged, turned_down_if, without_room_if}
 use Rattle.cue_service.proofs.desk.SiteCore.accept_request.Goals as goal
 
 pub returns-in-Ok-clause-ok : goal.returns-in-Ok-clause-ok
@@ -24,3 +24,8 @@ returns-in-Err-clause-ok c =
     c.in-Err.ensures.err
     (subst (λ (b : List ℕ). IsLeftOut (piece_of_bytes c.args.hand b) c.in-Err.why) is c.in-Err.ensures.left_out)
     c.answer_refusal.ensures
+
+pub returns-in-Some-clause-ok : goal.returns-in-Some-clause-ok
+returns-in-Some-clause-ok c =
+    without_room_if c.answer_no_room.result c.args.hand c.args.self.now c.note_no_room.new.self c.args.request.now c.answer_no_room.new.response c.may_write.result c.is_encoded.result
+    c.if-not-may_write.false c.may_write.ensures c.if-is_encoded.false c.is_encoded.ensures c.answer_no_room.ensures
