@@ -2,7 +2,7 @@ ghost use Rattle.std.specs.Prelude.{◌≡◌};
 
 use crate::doors::Doors;
 use bytes::Bytes;
-use cue_http::{Gathers, News};
+use cue_rounds::{Gathers, News};
 use http::{HeaderValue, Request, StatusCode};
 use http_server::{Response, Settle};
 use log::Log;
@@ -55,6 +55,14 @@ impl<S: Settle> Settle for Guarded<S> {
 
 /// What peers bring, and what the loop asks, goes to the service behind.
 impl<S: Gathers> Gathers for Guarded<S> {
+    ghost pulls_state = { λ old bytes taken new.
+        (new.doors ≡ old.doors) × S.pulls_state old.inner bytes taken new.inner };
+
+    ghost pulls_pieces = { λ old bytes taken new.
+        (new.doors ≡ old.doors) × S.pulls_pieces old.inner bytes taken new.inner };
+
+    ghost rests = { λ old new. (new.doors ≡ old.doors) × S.rests old.inner new.inner };
+
     fn pull_state(&mut self, bytes: &[u8]) -> bool {
         self.inner.pull_state(bytes)
     }

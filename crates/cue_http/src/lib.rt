@@ -1,17 +1,11 @@
-//! Many HTTP connections on one thread: an event loop over `mio` that moves bytes between sockets
-//! and `http_server`'s connections, lets answers go in rounds, and asks other sites now and
-//! then for what they accepted.
+//! Many HTTP connections on one thread: the sockets of `mio`, and the wait for them, under the
+//! rounds of `cue_rounds`.
 #![tactic(auto)]
 
-mod asked;
 mod ended;
-mod peer;
-mod peers;
-mod question;
-mod rounds;
 mod serving;
-mod wait;
+mod sockets;
 
+pub use cue_rounds::{Bounds, Gathers, InRound, News, PullSource};
 pub use ended::LoopError;
-pub use rounds::{Gathers, InRound, News};
-pub use serving::{Bounds, PullSource, serve};
+pub use serving::serve;

@@ -17,7 +17,7 @@ use crate::route::{Route, route_of, seconds_in};
 use crate::snapshots::Snapshots;
 use crate::standing::Standing;
 use bytes::Bytes;
-use cue_http::{Gathers, News};
+use cue_rounds::{Gathers, News};
 use cue_journal::{JournalPair, Room};
 use cue_replica::Replica;
 use http::{HeaderValue, Request, StatusCode};
@@ -245,6 +245,12 @@ impl<D: Disk> Settle for Site<D> {
 
 impl<D: Disk> Gathers for Site<D> {
     ghost use Rattle.cue_service.specs.Sites.{GathersAt, GathersPiecesAt, IsSiteUntouched};
+
+    ghost pulls_state = { λ old bytes _ new. GathersAt bytes old new };
+
+    ghost pulls_pieces = { λ old bytes _ new. GathersPiecesAt (pieces_of (recovered_pieces bytes)) old new };
+
+    ghost rests = { IsSiteUntouched };
 
     /// Takes the state of another site, unless it brings nothing.
     fn pull_state(&mut self, bytes: &[u8]) -> bool

@@ -1,5 +1,5 @@
 use crate::shown::Shown;
-use cue_http::News;
+use cue_rounds::News;
 use cue_lattice::Kind;
 use http::StatusCode;
 use log::{Log, info, warn};

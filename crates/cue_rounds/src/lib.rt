@@ -1,0 +1,16 @@
+//! The rounds of an HTTP service over a runtime of any kind: what is read, asked of other sites,
+//! answered, settled, and only then sent.
+#![tactic(auto)]
+
+mod asked;
+mod event_loop;
+mod peer;
+mod peers;
+mod question;
+mod rounds;
+mod runtime;
+mod wait;
+
+pub use event_loop::{Bounds, Loop, PullSource};
+pub use rounds::{Gathers, InRound, News};
+pub use runtime::{Accepted, ClientStream, Runtime, SourceStream, StreamFault};
