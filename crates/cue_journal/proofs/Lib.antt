@@ -5,5 +5,8 @@ pub mod Found
 pub mod Pairs
 pub mod Reading
 pub mod Scanning
+pub mod Sound
 pub mod Starts
+pub mod Telling
 pub mod Torn
+pub mod Written

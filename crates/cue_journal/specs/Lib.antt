@@ -1,9 +1,13 @@
 pub mod Batches
 pub mod Blocks
+pub mod Cursors
 pub mod Damage
 pub mod Found
 pub mod Frames
+pub mod Inner
 pub mod Journals
+pub mod Listed
+pub mod Lists
 pub mod Pairs
 pub mod Settled
 pub mod Starts

@@ -8,7 +8,7 @@ use crate::peer::is_due;
 use crate::question::{AskError, Course, SourceAnswer, SourceQuestion, Wanted, write_question};
 use crate::rounds::{Gathers, News};
 use crate::runtime::{Runtime, SourceStream};
-use cue_pieces::PieceCursor;
+use cue_journal::PieceCursor;
 use http::HeaderValue;
 use std::alloc::Global;
 use std::net::SocketAddr;

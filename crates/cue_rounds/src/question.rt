@@ -2,7 +2,7 @@ ghost use Rattle.std.specs.Prelude.{◌≡◌, ◌≤◌, ◌++◌, length, OnOk
 
 use crate::peer::is_due;
 use crate::runtime::{SourceStream, StreamFault};
-use cue_pieces::PieceCursor;
+use cue_journal::PieceCursor;
 use http1::{BodySize, Client, Event, Header, Limits, WriteError};
 use httparse::spans::{EMPTY_HEADER_SPAN, HeaderSpan};
 use std::alloc::{AllocError, Global};

@@ -14,9 +14,9 @@ use Rattle.http_server.specs.Response.{fields_of}
 use Rattle.cue_answer.specs.declared.question.SiteQuestion.{SiteQuestion}
 use Rattle.cue_replica.specs.Language.{Table}
 use Rattle.cue_service.specs.Answering.{IsAsked}
-use Rattle.cue_pieces.specs.Cursors.{cursor_text, IsCursor}
-use Rattle.cue_pieces.specs.declared.cursor.PieceCursor.{PieceCursor}
-use Rattle.cue_pieces.proofs.Telling.{IsPlain, plain_text}
+use Rattle.cue_journal.specs.Cursors.{cursor_text, IsCursor}
+use Rattle.cue_journal.specs.declared.cursor.PieceCursor.{PieceCursor}
+use Rattle.cue_journal.proofs.Telling.{IsPlain, plain_text}
 
 abbrev key : List ℕ
 key = codes "after="

@@ -6,7 +6,7 @@ use Rattle.cue_replica.specs.Replica.{AddsRefusals}
 use Rattle.cue_journal.specs.Blocks.{recovered_pieces}
 use Rattle.cue_journal.specs.Settled.{IsBatch}
 use Rattle.cue_journal.specs.Batches.{batch_bytes}
-use Rattle.cue_pieces.specs.Listed.{Listed}
+use Rattle.cue_journal.specs.Listed.{Listed}
 use Rattle.cue_service.specs.declared.desk.SiteCore.{SiteCore}
 use Rattle.cue_service.specs.Answering.{IsSame, IsPieceTaken, GathersPiece, GathersPieces}
 use Rattle.cue_service.specs.Entries.{entry_of}

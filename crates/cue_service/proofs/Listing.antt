@@ -2,8 +2,8 @@
 use Rattle.std.proofs.Common.{◌≡◌, ℕ, zero, suc, ◌+◌, ◌-◌, ◌≤◌, List, [], ◌∷◌, ◌++◌, length, drop, map, refl, sym, ap, ◌∙◌, arith, length-append, length-drop}
 use Rattle.std.proofs.lemmas.List.{map_push, drop-append-le, length-map}
 use Rattle.cue_lattice.specs.World.{Piece}
-use Rattle.cue_pieces.specs.Listed.{Listed, GivesUp, KeepsPieces, behind_of}
-use Rattle.cue_pieces.specs.Lists.{blocks}
+use Rattle.cue_journal.specs.Listed.{Listed, GivesUp, KeepsPieces, behind_of}
+use Rattle.cue_journal.specs.Lists.{blocks}
 use Rattle.cue_journal.specs.Blocks.{recovered_pieces}
 use Rattle.cue_service.specs.Entries.{entry_of}
 use Rattle.cue_service.specs.Listing.{AreListed, with_entry}

@@ -35,7 +35,7 @@ use Rattle.cue_service.proofs.Consistent.{same_consistent, still_consistent, tak
 use Rattle.cue_service.proofs.Listing.{listed_less}
 use Rattle.cue_service.proofs.Pulls.{entry_has}
 use Rattle.cue_service.proofs.Sparing.{spared, unanswered}
-use Rattle.cue_pieces.specs.Listed.{Listed}
+use Rattle.cue_journal.specs.Listed.{Listed}
 use Rattle.cue_service.specs.Entries.{entry_of, piece_of_entry, StandFor}
 use Rattle.std.specs.List.{Contains}
 

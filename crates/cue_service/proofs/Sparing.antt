@@ -6,8 +6,8 @@ use Rattle.cue_replica.specs.Replica.{AddsRefusals}
 use Rattle.cue_journal.specs.Blocks.{recovered_pieces}
 use Rattle.cue_journal.specs.Settled.{IsBatch}
 use Rattle.cue_journal.specs.Batches.{batch_bytes}
-use Rattle.cue_pieces.specs.Listed.{Listed, GivesUp}
-use Rattle.cue_pieces.proofs.Sound.{none_given_up}
+use Rattle.cue_journal.specs.Listed.{Listed, GivesUp}
+use Rattle.cue_journal.proofs.Sound.{none_given_up}
 use Rattle.cue_service.specs.declared.desk.SiteCore.{SiteCore}
 use Rattle.cue_service.specs.declared.route.Route.{Route}
 use Rattle.cue_service.specs.declared.route.Route.TheVariants.{Ask, Pieces, Take, Health, Metrics, Page, OtherMethod, Unknown}

@@ -1,6 +1,6 @@
 -- What a site answers to a request, and what that does to it.
 use Rattle.std.specs.List.{Contains}
-use Rattle.cue_pieces.specs.Listed.{GivesUp}
+use Rattle.cue_journal.specs.Listed.{GivesUp}
 use Rattle.std.specs.Prelude.{◌≡◌, ◌⊎◌, ◌<◌, ◌^◌, ℕ, List, [], ◌∷◌, ◌++◌, length, codes}
 use Rattle.cue_lattice.specs.World.{Piece, state, piece_refuses}
 use Rattle.cue_replica.specs.Accepted.{IsAcceptable}

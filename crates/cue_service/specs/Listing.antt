@@ -5,9 +5,9 @@ use Rattle.http.specs.declared.request.Request.{Request}
 use Rattle.http_server.specs.declared.response.Response.{Response}
 use Rattle.http_server.specs.Response.{IsResponse}
 use Rattle.cue_journal.specs.Blocks.{recovered_pieces}
-use Rattle.cue_pieces.specs.Cursors.{cursor_text, IsCursor}
-use Rattle.cue_pieces.specs.Listed.{Listed, IsListOfPieces, KeepsPieces}
-use Rattle.cue_pieces.specs.Lists.{blocks}
+use Rattle.cue_journal.specs.Cursors.{cursor_text, IsCursor}
+use Rattle.cue_journal.specs.Listed.{Listed, IsListOfPieces, KeepsPieces}
+use Rattle.cue_journal.specs.Lists.{blocks}
 use Rattle.cue_service.specs.Entries.{entry_of}
 use Rattle.cue_service.specs.Requests.{AsksBehind}
 use Rattle.cue_service.specs.Statuses.{HasHead, type_field, place_field, plain_bytes}

@@ -10,8 +10,8 @@ use Rattle.cue_answer.specs.declared.question.SiteQuestion.{SiteQuestion}
 use Rattle.cue_answer.specs.declared.question.SiteQuestion.TheVariants as questions
 use Rattle.cue_answer.specs.declared.question.Status.{Status}
 use Rattle.cue_answer.specs.declared.question.Status.TheVariants as statuses
-use Rattle.cue_pieces.specs.Cursors.{cursor_text}
-use Rattle.cue_pieces.specs.Listed.{Listed, next_of}
+use Rattle.cue_journal.specs.Cursors.{cursor_text}
+use Rattle.cue_journal.specs.Listed.{Listed, next_of}
 use Rattle.cue_service.specs.Tags.{tag_of}
 
 -- the status of an answer about the table: an export that is none has its own

@@ -11,8 +11,8 @@ ghost use Rattle.cue_service.specs.Refusals.{IsLeftOut};
 use crate::desk::SiteCore;
 use crate::entries::{parts_of, submit_piece};
 use crate::route::PieceKind;
+use cue_journal::entries_in;
 use cue_lattice::{Kind, Memory, Refusal};
-use cue_pieces::entries_in;
 use cue_replica::Replica;
 
 /// How many bytes an entry has at most that a journal takes.

@@ -1,5 +1,5 @@
 ghost use Rattle.std.specs.Prelude.{◌≡◌, ◌<◌, ◌^◌, ◌++◌, [], ◌∷◌, ℕ, List, IfSome, IfNone, OnOk};
-ghost use Rattle.cue_pieces.specs.Cursors.{IsCursor, cursor_text};
+ghost use Rattle.cue_journal.specs.Cursors.{IsCursor, cursor_text};
 ghost use Rattle.http_server.specs.Response.{IsBlank, fields_of};
 ghost use Rattle.cue_service.specs.Requests.{AsksBehind};
 ghost use Rattle.cue_service.specs.Listing.{AnswersWithPieces};
@@ -8,8 +8,8 @@ ghost use Rattle.cue_service.specs.Statuses.{place_field, place_fields};
 use crate::responses::{answer_body, answer_status};
 use bytes::Bytes;
 use cue_answer::SiteQuestion;
+use cue_journal::{PieceCursor, Pieces};
 use cue_lattice::Memory;
-use cue_pieces::{PieceCursor, Pieces};
 use http::{HeaderName, HeaderValue, Request, StatusCode};
 use http_server::Response;
 use std::alloc::Global;

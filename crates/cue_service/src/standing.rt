@@ -1,6 +1,6 @@
 use crate::shown::Shown;
-use cue_rounds::News;
 use cue_lattice::Kind;
+use cue_rounds::News;
 use http::StatusCode;
 use log::{Log, info, warn};
 use std::alloc::Global;

@@ -1,6 +1,6 @@
 //! Pieces that are kept, and given up.
 
-use cue_pieces::{PieceCursor, Pieces};
+use cue_journal::{PieceCursor, Pieces};
 use std::alloc::{AllocError, Global};
 use std::test::Fail;
 

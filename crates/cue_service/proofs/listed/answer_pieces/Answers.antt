@@ -3,9 +3,9 @@ use Rattle.std.specs.Prelude.{IfSome, IfNone}
 use Rattle.std.specs.declared.alloc.Global.{Global}
 use Rattle.bytes.specs.Filled.{Filled}
 use Rattle.cue_journal.specs.Blocks.{recovered_pieces}
-use Rattle.cue_pieces.specs.Cursors.{IsCursor}
-use Rattle.cue_pieces.specs.Listed.{KeepsPieces, behind_of}
-use Rattle.cue_pieces.specs.Lists.{blocks}
+use Rattle.cue_journal.specs.Cursors.{IsCursor}
+use Rattle.cue_journal.specs.Listed.{KeepsPieces, behind_of}
+use Rattle.cue_journal.specs.Lists.{blocks}
 use Rattle.http1.specs.Fields.{Header}
 use Rattle.cue_service.specs.Statuses.{place_field}
 use Rattle.cue_service.proofs.Listing.{told}

@@ -1,8 +1,8 @@
 use Rattle.std.proofs.Common.{◌≡◌, ℕ, List, [], ◌∷◌, ◌++◌, sym, ap, ◌∙◌, subst, arith}
 use Rattle.http_header.specs.FieldValue.{FieldValue, IsFieldValue}
 use Rattle.http_server.specs.Response.{fields_of}
-use Rattle.cue_pieces.specs.Cursors.{cursor_text}
-use Rattle.cue_pieces.specs.Listed.{next_of}
+use Rattle.cue_journal.specs.Cursors.{cursor_text}
+use Rattle.cue_journal.specs.Listed.{next_of}
 use Rattle.cue_service.proofs.Asking.{cursor_may_stand, same_pair}
 use Rattle.cue_service.proofs.listed.name_cursor.Goals as goal
 

@@ -1,0 +1,2 @@
+-- What the prover needs and no reader has to believe: only private clauses and proofs cite it.
+pub mod Pieces

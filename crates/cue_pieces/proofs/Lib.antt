@@ -1,3 +1,0 @@
-pub mod Sound
-pub mod Telling
-pub mod Written

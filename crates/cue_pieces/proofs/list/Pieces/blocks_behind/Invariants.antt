@@ -1,6 +1,0 @@
-use Rattle.std.proofs.Common.{◌≡◌, ◌++◌, drop}
-use Rattle.cue_pieces.specs.Lists.{blocks}
-use Rattle.cue_pieces.proofs.list.Pieces.blocks_behind.Given as goal
-
-abbrev pub invariant-loop-at : goal.invariant-loop-at
-invariant-loop-at l = blocks (drop l.place l.self.kept) ≡ l.body.items ++ blocks (drop l.at l.self.kept)

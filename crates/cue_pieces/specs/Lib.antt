@@ -1,4 +1,0 @@
-pub mod Cursors
-pub mod Inner
-pub mod Listed
-pub mod Lists
