@@ -1,6 +1,6 @@
 -- Whole runs of the program, on devices whose bytes are known or not.
 use Rattle.std.specs.Prelude.{◌≡◌, ◌⊎◌, ℕ, List, [], ◌++◌, Option, Some, None, Ok, Err, codes, true}
-use Rattle.cue_answer.specs.Answers.{IsShown, HasBytesAndStatus, code_of}
+use Rattle.cue_replica.specs.Answers.{IsShown, HasBytesAndStatus, code_of}
 use Rattle.cue_replica.specs.Language.{Table}
 use Rattle.cue_program.specs.declared.Answer.{Answer}
 use Rattle.cue_program.specs.declared.SiteQuestion.{SiteQuestion}

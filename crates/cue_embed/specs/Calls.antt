@@ -3,10 +3,10 @@ use Rattle.std.specs.Prelude.{ℕ, List, [], ◌∷◌, Result, MatchResult}
 use Rattle.cue_lattice.specs.World.{Piece, text, state}
 use Rattle.cue_replica.specs.Accepted.{IsOfPieces}
 use Rattle.cue_replica.specs.Language.{Table}
-use Rattle.cue_answer.specs.Answers.{IsWholeAnswer}
-use Rattle.cue_answer.specs.declared.question.SiteQuestion.{SiteQuestion}
-use Rattle.cue_answer.specs.declared.question.SiteQuestion.TheVariants as questions
-use Rattle.cue_answer.specs.declared.told.Answer.{Answer}
+use Rattle.cue_replica.specs.Answers.{IsWholeAnswer}
+use Rattle.cue_replica.specs.declared.question.SiteQuestion.{SiteQuestion}
+use Rattle.cue_replica.specs.declared.question.SiteQuestion.TheVariants as questions
+use Rattle.cue_replica.specs.declared.answers.Answer.{Answer}
 use Rattle.cue_embed.specs.declared.outcome.CallOutcome.{CallOutcome}
 use Rattle.cue_embed.specs.declared.outcome.CallError.{CallError}
 use Rattle.cue_embed.specs.Outcomes.{IsOutcomeOf}

@@ -1,8 +1,8 @@
 -- What a call came to, and what it wrote.
 use Rattle.std.specs.Prelude.{◌≡◌, ◌⊎◌, ℕ, ◌<◌, ◌≤◌, List, ◌++◌, length, drop, Result, Ok, Err}
 use Rattle.cue_replica.specs.Accepted.{number_of}
-use Rattle.cue_answer.specs.Answers.{code_of}
-use Rattle.cue_answer.specs.declared.told.Answer.{Answer}
+use Rattle.cue_replica.specs.Answers.{code_of}
+use Rattle.cue_replica.specs.declared.answers.Answer.{Answer}
 use Rattle.cue_embed.specs.declared.outcome.CallOutcome.{CallOutcome}
 use Rattle.cue_embed.specs.declared.outcome.CallError.{CallError}
 

@@ -13,9 +13,9 @@ mod site;
 mod tests;
 
 ghost use Rattle.cue_embed.specs.Calls.{IsNew, IsSubmitted, IsMergedState, AnswersState};
-ghost use Rattle.cue_answer.specs.declared.question.SiteQuestion.TheVariants as questions;
+ghost use Rattle.cue_replica.specs.declared.question.SiteQuestion.TheVariants as questions;
 
-use cue_answer::SiteQuestion;
+use cue_replica::SiteQuestion;
 pub use outcome::CallOutcome;
 use outcome::outcome_of;
 use site::{answer_state, merge_states, new_state, submit_text};

@@ -1,8 +1,7 @@
 ghost use Rattle.std.specs.Prelude.{◌≡◌};
 ghost use Rattle.cue_embed.specs.Outcomes.{outcome_of_error, IsGiven, IsOutcomeOf};
 
-use cue_answer::Answer;
-use cue_replica::{Memory, Refusal};
+use cue_replica::{Answer, Memory, Refusal};
 
 /// The status of a call whose answer has no room.
 const NO_ROOM: u8 = 5;

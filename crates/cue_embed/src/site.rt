@@ -3,15 +3,14 @@ ghost use Rattle.std.specs.Prelude.{length};
 ghost use Rattle.std.specs.Str.{IsUtf8};
 ghost use Rattle.cue_lattice.specs.World.{Piece, text, state};
 ghost use Rattle.cue_replica.specs.Accepted.{text_limit, IsOfPieces};
-ghost use Rattle.cue_answer.specs.Answers.{IsWholeAnswer};
-ghost use Rattle.cue_answer.specs.declared.question.SiteQuestion.TheVariants as questions;
+ghost use Rattle.cue_replica.specs.Answers.{IsWholeAnswer};
+ghost use Rattle.cue_replica.specs.declared.question.SiteQuestion.TheVariants as questions;
 ghost use Rattle.cue_embed.specs.Calls.{IsCallAnswer};
 ghost use Rattle.cue_embed.specs.Stops.{IsMemoryError, IsRefusedAt, IsStateError, IsTextError};
 ghost use Rattle.cue_embed.specs.Stops.{IsStateStop, IsSubmitStop, IsMergeError};
 
 use crate::outcome::CallError;
-use cue_answer::{Answer, SiteQuestion, answer_to};
-use cue_replica::{Kind, Refusal, Replica, TEXT_LIMIT};
+use cue_replica::{Answer, Kind, Refusal, Replica, SiteQuestion, TEXT_LIMIT, answer_to};
 use std::alloc::Global;
 use std::str;
 

@@ -7,8 +7,8 @@ use Rattle.cue_replica.specs.declared.Conflict.{Conflict}
 use Rattle.cue_replica.specs.declared.Gap.{Gap}
 use Rattle.cue_replica.specs.Language.{Table}
 use Rattle.cue_replica.specs.Reports.{WritesConflictsOf, WritesGapsOf, gap_line}
-use Rattle.cue_answer.specs.Answers.{code_of, report_lines, report_status}
-use Rattle.cue_answer.specs.declared.question.SiteQuestion.TheVariants as questions
+use Rattle.cue_replica.specs.Answers.{code_of, report_lines, report_status}
+use Rattle.cue_replica.specs.declared.question.SiteQuestion.TheVariants as questions
 use Rattle.cue_layers_command.specs.Places.{IsShownAt}
 use Rattle.cue_layers_command.specs.inner.Lines.{lines_code}
 

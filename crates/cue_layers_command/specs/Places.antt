@@ -1,6 +1,6 @@
 -- What is printed of a place of a view.
 use Rattle.std.specs.Prelude.{◌≡◌, ◌⊎◌, ◌<◌, ℕ, List, [], ◌++◌, Option, codes}
-use Rattle.cue_answer.specs.Answers.{IsShown, code_of}
+use Rattle.cue_replica.specs.Answers.{IsShown, code_of}
 use Rattle.cue_lattice.specs.Limits.{step_limit}
 use Rattle.cue_lattice.specs.Path.{Path}
 use Rattle.cue_layers.specs.declared.layer.Layer.{Layer}

@@ -1,7 +1,7 @@
 -- Whole runs of the program, on devices whose bytes are known or not.
 use Rattle.std.specs.Prelude.{◌≡◌, ◌⊎◌, ℕ, List, [], ◌++◌, Option, Some, None, codes, decimal, map, true}
-use Rattle.cue_answer.specs.Answers.{IsShown, code_of}
-use Rattle.cue_answer.specs.declared.told.Answer.{Answer}
+use Rattle.cue_replica.specs.Answers.{IsShown, code_of}
+use Rattle.cue_replica.specs.declared.answers.Answer.{Answer}
 use Rattle.cue_replica.specs.Language.{Table}
 use Rattle.cue_policies.specs.declared.kind.LayerKind.{LayerKind}
 use Rattle.cue_program.specs.declared.SiteQuestion.{SiteQuestion}

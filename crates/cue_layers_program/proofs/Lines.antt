@@ -9,7 +9,7 @@ use Rattle.std.specs.Ordering.{nat_cmp}
 use Rattle.std.proofs.lemmas.List.{append_assoc, append-nil, map_push, take_more}
 use Rattle.std.proofs.lemmas.Map.Text.{is_eq-slice_cmp}
 use Rattle.std.proofs.lemmas.List.Folds.{concat-append, list_any-append}
-use Rattle.cue_answer.specs.declared.Status.TheVariants as statuses
+use Rattle.cue_replica.specs.declared.Status.TheVariants as statuses
 use Rattle.cue_layers.specs.declared.Layer.{Layer}
 use Rattle.cue_program.specs.Files.{texts_of_files}
 use Rattle.cue_layers_program.specs.Answers.{AreLines, IsLayerLine}

@@ -3,11 +3,11 @@ use Rattle.std.specs.Prelude.{◌≡◌, ◌⊎◌, ℕ, Bool, not, List, [], �
 use Rattle.std.specs.List.{concat, filter, list_any, starts_with}
 use Rattle.std.specs.Prelude.{nat_eq, if◌then◌else◌}
 use Rattle.std.specs.Str.{bytes_eq}
-use Rattle.cue_answer.specs.Answers.{IsAnswer}
-use Rattle.cue_answer.specs.declared.Answer.{Answer}
-use Rattle.cue_answer.specs.declared.SiteQuestion.TheVariants as questions
-use Rattle.cue_answer.specs.declared.Status.{Status}
-use Rattle.cue_answer.specs.declared.Status.TheVariants as statuses
+use Rattle.cue_replica.specs.Answers.{IsAnswer}
+use Rattle.cue_replica.specs.declared.Answer.{Answer}
+use Rattle.cue_replica.specs.declared.SiteQuestion.TheVariants as questions
+use Rattle.cue_replica.specs.declared.Status.{Status}
+use Rattle.cue_replica.specs.declared.Status.TheVariants as statuses
 use Rattle.cue_layers.specs.View.{IsTooLarge, IsViewOf}
 use Rattle.cue_layers.specs.declared.Layer.{Layer}
 use Rattle.cue_layers.specs.declared.LayersRefusal.TheVariants as reasons

@@ -1,7 +1,7 @@
 -- What pushing and looping come to.
 use Rattle.std.proofs.Common.{ℕ, List, All, Result, Err, IsErrAnd, refl, inl, inr, ⊎_elim}
 use Rattle.cue_lattice.specs.declared.refusal.Kind.TheVariants as kinds
-use Rattle.cue_answer.specs.declared.told.Answer.{Answer}
+use Rattle.cue_replica.specs.declared.answers.Answer.{Answer}
 use Rattle.cue_wire.specs.Clients.{IsSendable}
 use Rattle.cue_wire.specs.Connections.{Moment}
 use Rattle.cue_wire.specs.declared.request.Request as requests

@@ -1,7 +1,7 @@
 -- Connections that are served behind others.
 use Rattle.std.proofs.Common.{◌≡◌, ◌+◌, ℕ, zero, suc, [], ◌++◌, refl, subst, arith, inl, inr, ⊎_elim, Result, Ok, Err, IfOk, IfErr, IsErrAnd}
 use Rattle.std.proofs.lemmas.List.Elements.{All-nil, All-append}
-use Rattle.cue_answer.specs.declared.told.Answer.{Answer}
+use Rattle.cue_replica.specs.declared.answers.Answer.{Answer}
 use Rattle.cue_replica.specs.Language.{Table, empty_site}
 use Rattle.cue_wire.specs.Connections.{Moment, ServedPassage}
 use Rattle.cue_wire.specs.Frames.{IsBody}

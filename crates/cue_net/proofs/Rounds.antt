@@ -1,7 +1,7 @@
 -- What is answered where both ends are here.
 use Rattle.std.proofs.Common.{◌≡◌, ◌≢◌, ◌⊎◌, ℕ, ◌+◌, ◌≤◌, List, [], ◌∷◌, ◌++◌, length, All, refl, ap, sym, ◌∙◌, subst, arith, append-nil, inl, inr, ⊎_elim, Result, Ok, Err, IsErrOf, IsErrAnd, Vec, Global}
 use Rattle.cue_lattice.specs.declared.refusal.Kind.TheVariants as kinds
-use Rattle.cue_answer.specs.declared.told.Answer.{Answer}
+use Rattle.cue_replica.specs.declared.answers.Answer.{Answer}
 use Rattle.cue_replica.specs.Language.{Table, empty_site}
 use Rattle.cue_wire.specs.Clients.{ClientExchange, ClientHasTaken, all_items, IsSendable}
 use Rattle.cue_wire.specs.Frames.{AreFrames}

@@ -1,7 +1,7 @@
 -- What is answered of a talk.
 use Rattle.std.proofs.Common.{◌≡◌, ◌≢◌, ◌⊎◌, ℕ, ◌+◌, ◌≤◌, List, [], ◌∷◌, ◌++◌, length, All, refl, ap, sym, ◌∙◌, subst, arith, append-nil, inl, inr, ⊎_elim, Result, Ok, Err, IsErrOf, IsErrAnd, Vec, Global}
 use Rattle.std.proofs.lemmas.List.Elements.{All-nil}
-use Rattle.cue_answer.specs.declared.told.Answer.{Answer}
+use Rattle.cue_replica.specs.declared.answers.Answer.{Answer}
 use Rattle.cue_wire.specs.Clients.{ClientExchange, ClientHasTaken, all_items, IsSendable}
 use Rattle.cue_wire.specs.Frames.{AreFrames}
 use Rattle.cue_wire.specs.declared.request.Request as requests

@@ -2,7 +2,7 @@
 use Rattle.std.specs.Prelude.{◌≡◌, ◌⊎◌, ℕ, zero, suc, List, All, Result, Ok, Err}
 use Rattle.cue_lattice.specs.declared.refusal.Kind.{Kind}
 use Rattle.cue_lattice.specs.declared.refusal.Kind.TheVariants as kinds
-use Rattle.cue_answer.specs.declared.told.Answer.{Answer}
+use Rattle.cue_replica.specs.declared.answers.Answer.{Answer}
 use Rattle.cue_replica.specs.Language.{Table, empty_site}
 use Rattle.cue_wire.specs.declared.connection.Ended.{Ended}
 use Rattle.cue_wire.specs.declared.request.Request as requests

@@ -1,8 +1,8 @@
 -- What is printed of a site's export.
 use Rattle.std.specs.Prelude.{ℕ, List, All}
-use Rattle.cue_answer.specs.declared.question.SiteQuestion.TheVariants as questions
-use Rattle.cue_answer.specs.declared.told.Answer.{Answer}
-use Rattle.cue_answer.specs.Answers.{IsShown}
+use Rattle.cue_replica.specs.declared.question.SiteQuestion.TheVariants as questions
+use Rattle.cue_replica.specs.declared.answers.Answer.{Answer}
+use Rattle.cue_replica.specs.Answers.{IsShown}
 use Rattle.cue_replica.specs.Language.{Table, empty_site}
 use Rattle.cue_wire.specs.Frames.{IsBody}
 use Rattle.cue_wire.specs.Serving.{ServesAll}

@@ -5,8 +5,8 @@ use Rattle.cue_lattice.specs.Refusal.{number_of, refusal_at}
 use Rattle.cue_lattice.specs.declared.refusal.Kind.{Kind}
 use Rattle.cue_lattice.specs.declared.refusal.Kind.TheVariants as kinds
 use Rattle.cue_lattice.specs.declared.refusal.Refusal.{Refusal}
-use Rattle.cue_answer.specs.declared.question.Status.{Status}
-use Rattle.cue_answer.specs.Answers.{code_of}
+use Rattle.cue_replica.specs.declared.question.Status.{Status}
+use Rattle.cue_replica.specs.Answers.{code_of}
 use Rattle.cue_net.specs.declared.reply.Verdict.{Verdict}
 use Rattle.cue_net.specs.declared.reply.Verdict.TheVariants as verdicts
 use Rattle.cue_net.specs.declared.reply.ExportReply.{ExportReply}

@@ -1,6 +1,6 @@
 -- What the words answer over sockets, of whose bytes nothing is known.
 use Rattle.std.specs.Prelude.{◌≡◌, ◌⊎◌, ℕ, List, length, All, Result, Err}
-use Rattle.cue_answer.specs.declared.told.Answer.{Answer}
+use Rattle.cue_replica.specs.declared.answers.Answer.{Answer}
 use Rattle.cue_wire.specs.declared.request.Request as requests
 use Rattle.cue_wire.specs.Clients.{IsSendable}
 use Rattle.cue_net.specs.declared.halt.NetError.{NetError}

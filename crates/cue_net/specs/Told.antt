@@ -3,10 +3,10 @@ use Rattle.std.specs.Prelude.{◌≡◌, ◌⊎◌, ℕ, ◌+◌, List, [], ◌�
 use Rattle.std.specs.Prelude.{Err}
 use Rattle.cue_lattice.specs.Refusal.{refusal_at}
 use Rattle.cue_lattice.specs.declared.refusal.Refusal.{Refusal}
-use Rattle.cue_answer.specs.declared.question.SiteQuestion.TheVariants as questions
-use Rattle.cue_answer.specs.declared.question.Status.{Status}
-use Rattle.cue_answer.specs.declared.told.Answer.{Answer}
-use Rattle.cue_answer.specs.Answers.{HasBytesAndStatus, line_end}
+use Rattle.cue_replica.specs.declared.question.SiteQuestion.TheVariants as questions
+use Rattle.cue_replica.specs.declared.question.Status.{Status}
+use Rattle.cue_replica.specs.declared.answers.Answer.{Answer}
+use Rattle.cue_replica.specs.Answers.{HasBytesAndStatus, line_end}
 use Rattle.cue_net.specs.declared.halt.NetError.{NetError}
 use Rattle.cue_net.specs.declared.halt.NetError.TheVariants as halts
 use Rattle.cue_net.specs.Halts.{IsMemoryNetError}

@@ -3,7 +3,7 @@ use Rattle.std.specs.Prelude.{◌≡◌, ℕ, List, [], ◌∷◌, Ok}
 use Rattle.cue_replica.specs.declared.world.Outcome.TheVariants.{Accepted}
 use Rattle.cue_replica.specs.Language.{Table}
 use Rattle.cue_replica.specs.World.{SubmitsText, TakesState}
-use Rattle.cue_answer.specs.declared.told.Answer.{Answer}
+use Rattle.cue_replica.specs.declared.answers.Answer.{Answer}
 use Rattle.cue_wire.specs.declared.request.Request as requests
 use Rattle.cue_wire.specs.Clients.{request_of_client}
 use Rattle.cue_wire.specs.Readings.{IsLast}

@@ -17,8 +17,7 @@ mod sockets;
 mod told;
 mod turns;
 
-pub use cue_answer::{Answer, Status};
-pub use cue_replica::{Kind, Refusal};
+pub use cue_replica::{Answer, Kind, Refusal, Status};
 pub use cue_wire::Request;
 pub use halt::NetError;
 pub use laws::answers_are_true;

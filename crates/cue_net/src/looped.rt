@@ -18,9 +18,8 @@ use crate::network::{End, Network};
 use crate::pushing::{all_fit, client_of};
 use crate::told::answer_of_replies;
 use crate::turns::write_some;
-use cue_answer::Answer;
 use cue_device::{Sink, Source};
-use cue_replica::{Kind, Replica};
+use cue_replica::{Answer, Kind, Replica};
 use cue_wire::{Client, PIECE, Request, Session};
 use std::alloc::Global;
 

@@ -16,9 +16,8 @@ use crate::halt::NetError;
 use crate::network::Network;
 use crate::told::answer_of_replies;
 use crate::turns::{read_some, write_some};
-use cue_answer::Answer;
 use cue_device::{Sink, Source};
-use cue_replica::Kind;
+use cue_replica::{Answer, Kind};
 use cue_wire::{Client, FRAME_LIMIT, PIECE, Request};
 use std::alloc::Global;
 

@@ -2,14 +2,13 @@ ghost use Rattle.std.specs.Prelude.{◌≡◌, ◌≢◌, ◌∷◌, ℕ, List, 
 ghost use Rattle.std.specs.Prelude.{length};
 ghost use Rattle.std.specs.Int.{w64, to_be_bytes};
 ghost use Rattle.cue_lattice.specs.Refusal.{number_of};
-ghost use Rattle.cue_answer.specs.Answers.{code_of};
+ghost use Rattle.cue_replica.specs.Answers.{code_of};
 ghost use Rattle.cue_net.specs.Replies.{IsReplyUnreadable, ReplySays, ReplySaysOfInput, ReplySaysOfExport};
 ghost use Rattle.cue_net.specs.Replies.{IsNoReply, IsNoInputReply, IsNoExportReply};
 
-use cue_answer::Status;
 use cue_device::Fault;
 use cue_lattice::Form;
-use cue_replica::{Kind, Refusal};
+use cue_replica::{Kind, Refusal, Status};
 use std::str;
 
 /// What a reply says of its request.

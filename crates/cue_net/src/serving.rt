@@ -7,9 +7,8 @@ ghost use Rattle.cue_net.specs.Printed.{IsPrintedExport, IsServedExport};
 use crate::MAX_TURNS;
 use crate::halt::NetError;
 use crate::network::{End, Network};
-use cue_answer::{Answer, SiteQuestion, answer_to, to_printed};
 use cue_device::{Sink, Source};
-use cue_replica::{Memory, Replica};
+use cue_replica::{Answer, Memory, Replica, SiteQuestion, answer_to, to_printed};
 use cue_wire::serve;
 use std::alloc::Global;
 

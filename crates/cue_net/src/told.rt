@@ -1,7 +1,7 @@
 ghost use Rattle.std.specs.Prelude.{◌≡◌, ◌≢◌, ◌⊎◌, ◌+◌, ◌∷◌, ◌++◌, ℕ, List, [], IfOk, IsErr};
 ghost use Rattle.std.specs.Prelude.{IsErrOf};
 ghost use Rattle.std.specs.Prelude.{Any, length};
-ghost use Rattle.cue_answer.specs.Answers.{code_of};
+ghost use Rattle.cue_replica.specs.Answers.{code_of};
 ghost use Rattle.cue_wire.specs.Clients.{all_items};
 ghost use Rattle.cue_net.specs.Replies.{IsNoInputReply};
 ghost use Rattle.cue_net.specs.Told.{ReportReplies, IsPrinted};
@@ -9,9 +9,8 @@ ghost use Rattle.cue_net.specs.Inner.Told.{IsFound, first_of};
 
 use crate::halt::NetError;
 use crate::reply::{ExportReply, export_in, refusal_in};
-use cue_answer::{Answer, SiteQuestion, Status, to_printed};
 use cue_device::Fault;
-use cue_replica::{Memory, Refusal};
+use cue_replica::{Answer, Memory, Refusal, SiteQuestion, Status, to_printed};
 use std::alloc::Global;
 
 /// What the replies to so many inputs and to the question for the export, which comes last, tell:

@@ -1,12 +1,12 @@
 -- Answers that are written while they are made.
 use Rattle.std.proofs.Common.{◌≡◌, ◌⊎◌, ⊎_elim, inl, inr, ◌++◌, ℕ, List, Option, true, refl, sym, ap, ◌∙◌, subst, append_assoc, append-nil}
 use Rattle.std.specs.Io.KnownBytes.{Appends}
-use Rattle.cue_answer.specs.Answers.{WritesAnswerPrefix, WritesAnswer, line_end}
-use Rattle.cue_answer.specs.declared.SiteQuestion.{SiteQuestion}
-use Rattle.cue_answer.specs.declared.SiteQuestion.TheVariants as questions
-use Rattle.cue_answer.specs.declared.Status.{Status}
-use Rattle.cue_answer.specs.declared.Status.TheVariants as statuses
-use Rattle.cue_answer.proofs.OneAnswer.{one_answer}
+use Rattle.cue_replica.specs.Answers.{WritesAnswerPrefix, WritesAnswer, line_end}
+use Rattle.cue_replica.specs.declared.SiteQuestion.{SiteQuestion}
+use Rattle.cue_replica.specs.declared.SiteQuestion.TheVariants as questions
+use Rattle.cue_replica.specs.declared.Status.{Status}
+use Rattle.cue_replica.specs.declared.Status.TheVariants as statuses
+use Rattle.cue_replica.proofs.OneAnswer.{one_answer}
 use Rattle.cue_device.specs.Texts.{WritesPrefix}
 use Rattle.cue_replica.specs.Language.{Table, language}
 use Rattle.cue_program.specs.Outlets.{AddsBytes, BreaksAfter, HasBegun, IsWriteFailed, Passage, passage_of}

@@ -1,9 +1,9 @@
 -- What a run makes of its inputs.
 use Rattle.std.specs.Prelude.{◌≡◌, ◌⊎◌, ℕ, List, true}
-use Rattle.cue_answer.specs.Answers.{IsShown}
-use Rattle.cue_answer.specs.declared.Answer.{Answer}
-use Rattle.cue_answer.specs.declared.SiteQuestion.{SiteQuestion}
-use Rattle.cue_answer.specs.declared.Status.{Status}
+use Rattle.cue_replica.specs.Answers.{IsShown}
+use Rattle.cue_replica.specs.declared.Answer.{Answer}
+use Rattle.cue_replica.specs.declared.SiteQuestion.{SiteQuestion}
+use Rattle.cue_replica.specs.declared.Status.{Status}
 use Rattle.cue_replica.specs.Language.{Table, language}
 use Rattle.cue_program.specs.Calls.{FileCall, PutsFile}
 use Rattle.cue_program.specs.Inputs.{Inputs, IsUnified, IsInputRefused, IsInputUnread}

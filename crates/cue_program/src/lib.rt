@@ -26,9 +26,11 @@ mod writing;
 
 pub use atomic_write::put;
 pub use contents::Contents;
-pub use cue_answer::{Answer, SiteQuestion, Status, answer_to, to_printed};
 pub use cue_device::Fault;
-pub use cue_replica::{Kind, Memory, Refusal, Replica, StateReader};
+pub use cue_replica::{
+    Answer, Kind, Memory, Refusal, Replica, SiteQuestion, StateReader, Status, answer_to,
+    to_printed,
+};
 pub use cue_wire::Request;
 pub use files::{CreateError, FileForm, FileSystem};
 pub use input_reader::{Enough, Input, InputReader};

@@ -1,6 +1,6 @@
 //! Answers that are written while they are made.
 ghost use Rattle.std.specs.Prelude.{◌≡◌, ◌⊎◌, IfOk, IfErr, Option, List, ℕ, true};
-ghost use Rattle.cue_answer.specs.Answers.{line_end as end_of, of_text};
+ghost use Rattle.cue_replica.specs.Answers.{line_end as end_of, of_text};
 ghost use Rattle.cue_program.specs.Outlets.{outlet_failed, outlet_inner, passage_of};
 ghost use Rattle.cue_program.specs.Runs.{IsAnswerAdded, IsAnswerCut};
 ghost use Rattle.cue_program.specs.Stops.{IsDeviceStop, IsMemoryStop};
@@ -8,8 +8,7 @@ ghost use Rattle.cue_program.specs.Stops.{IsDeviceStop, IsMemoryStop};
 use crate::output::Output;
 use crate::stop::RunError;
 use crate::writing::write_state;
-use cue_answer::{SiteQuestion, Status, TextQuestion, TextSink, write_answer};
-use cue_replica::{Memory, Replica};
+use cue_replica::{Memory, Replica, SiteQuestion, Status, TextQuestion, TextSink, write_answer};
 use std::alloc::Global;
 use std::io::Write;
 

@@ -6,8 +6,10 @@ pub mod Documents
 pub mod Events
 pub mod Example
 pub mod Lexed
+pub mod OneAnswer
 pub mod PrintedAgain
 pub mod Reading
 pub mod Runs
 pub mod Sound
+pub mod Tellings
 pub mod Texts

@@ -2,3 +2,4 @@
 pub mod Accepted
 pub mod Events
 pub mod Reads
+pub mod Statuses

@@ -1,4 +1,5 @@
 pub mod Accepted
+pub mod Answers
 pub mod Documents
 pub mod Inner
 pub mod Language

@@ -11,7 +11,7 @@ use Rattle.http.specs.declared.request.Request.{Request}
 use Rattle.http1.specs.Fields.{Header}
 use Rattle.http_server.specs.declared.response.Response.{Response}
 use Rattle.http_server.specs.Response.{fields_of}
-use Rattle.cue_answer.specs.declared.question.SiteQuestion.{SiteQuestion}
+use Rattle.cue_replica.specs.declared.question.SiteQuestion.{SiteQuestion}
 use Rattle.cue_replica.specs.Language.{Table}
 use Rattle.cue_service.specs.Answering.{IsAsked}
 use Rattle.cue_journal.specs.Cursors.{cursor_text, IsCursor}

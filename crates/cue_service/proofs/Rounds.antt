@@ -26,10 +26,10 @@ use Rattle.cue_service.specs.Statuses.{place_fields, status_of_answer, status_of
 use Rattle.cue_service.specs.Listing.{AreListed, AnswersWithPieces}
 use Rattle.cue_service.specs.Sites.{AnswersAt, IsConsistent, Settles, Leaves}
 use Rattle.cue_service.specs.Promise.{acknowledged_by, acknowledged_pieces, AreSomeOf}
-use Rattle.cue_answer.specs.declared.question.SiteQuestion.{SiteQuestion}
-use Rattle.cue_answer.specs.declared.question.SiteQuestion.TheVariants as questions
-use Rattle.cue_answer.specs.declared.question.Status.{Status}
-use Rattle.cue_answer.specs.declared.question.Status.TheVariants as statuses
+use Rattle.cue_replica.specs.declared.question.SiteQuestion.{SiteQuestion}
+use Rattle.cue_replica.specs.declared.question.SiteQuestion.TheVariants as questions
+use Rattle.cue_replica.specs.declared.question.Status.{Status}
+use Rattle.cue_replica.specs.declared.question.Status.TheVariants as statuses
 use Rattle.cue_service.proofs.Alike.{read_back}
 use Rattle.cue_service.proofs.Consistent.{same_consistent, still_consistent, taken_consistent, known_consistent}
 use Rattle.cue_service.proofs.Listing.{listed_less}

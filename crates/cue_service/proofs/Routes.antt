@@ -2,7 +2,7 @@
 use Rattle.std.proofs.Common.{◌≡◌, ◌⊎◌, inl, inr, ℕ, List, codes}
 use Rattle.http.specs.declared.request.Request.{Request}
 use Rattle.http.specs.Request.{head_of}
-use Rattle.cue_answer.specs.declared.question.SiteQuestion.TheVariants as questions
+use Rattle.cue_replica.specs.declared.question.SiteQuestion.TheVariants as questions
 use Rattle.cue_service.specs.declared.route.Route.{Route}
 use Rattle.cue_service.specs.declared.route.Route.TheVariants.{Ask, Pieces, Take, Health, Metrics, Page, OtherMethod, Unknown}
 use Rattle.cue_service.specs.declared.route.PieceKind.TheVariants as hands

@@ -3,8 +3,8 @@ use Rattle.std.proofs.Common.{◌≡◌, ℕ, List, [], ◌∷◌, Result, Ok, E
 use Rattle.http.specs.declared.request.Request.{Request}
 use Rattle.http_server.specs.declared.response.Response.{Response}
 use Rattle.http_server.specs.Response.{IsResponse}
-use Rattle.cue_answer.specs.declared.question.SiteQuestion.{SiteQuestion}
-use Rattle.cue_answer.specs.declared.question.Status.{Status}
+use Rattle.cue_replica.specs.declared.question.SiteQuestion.{SiteQuestion}
+use Rattle.cue_replica.specs.declared.question.Status.{Status}
 use Rattle.cue_replica.specs.Language.{Table}
 use Rattle.std.specs.Prelude.{codes}
 use Rattle.cue_service.specs.declared.kept.KeptAnswer.{KeptAnswer}

@@ -1,10 +1,10 @@
 -- What was told of a table, and is kept as long as it stands.
 use Rattle.std.specs.Prelude.{◌≡◌, IfSome}
 use Rattle.cue_replica.specs.Language.{Table}
-use Rattle.cue_answer.specs.Answers.{IsWholeAnswer}
-use Rattle.cue_answer.specs.declared.question.SiteQuestion.{SiteQuestion}
-use Rattle.cue_answer.specs.declared.question.SiteQuestion.TheVariants as questions
-use Rattle.cue_answer.specs.declared.told.Answer.{Answer}
+use Rattle.cue_replica.specs.Answers.{IsWholeAnswer}
+use Rattle.cue_replica.specs.declared.question.SiteQuestion.{SiteQuestion}
+use Rattle.cue_replica.specs.declared.question.SiteQuestion.TheVariants as questions
+use Rattle.cue_replica.specs.declared.answers.Answer.{Answer}
 use Rattle.cue_service.specs.declared.kept.AnswerCache.{AnswerCache}
 use Rattle.cue_service.specs.declared.kept.KeptAnswer.{KeptAnswer}
 use Rattle.cue_service.specs.Tags.{tag_of}

@@ -6,10 +6,10 @@ use Rattle.http_server.specs.Response.{fields_of}
 use Rattle.cue_lattice.specs.declared.refusal.Kind.{Kind}
 use Rattle.cue_lattice.specs.declared.refusal.Kind.TheVariants as kinds
 use Rattle.cue_replica.specs.Language.{Table}
-use Rattle.cue_answer.specs.declared.question.SiteQuestion.{SiteQuestion}
-use Rattle.cue_answer.specs.declared.question.SiteQuestion.TheVariants as questions
-use Rattle.cue_answer.specs.declared.question.Status.{Status}
-use Rattle.cue_answer.specs.declared.question.Status.TheVariants as statuses
+use Rattle.cue_replica.specs.declared.question.SiteQuestion.{SiteQuestion}
+use Rattle.cue_replica.specs.declared.question.SiteQuestion.TheVariants as questions
+use Rattle.cue_replica.specs.declared.question.Status.{Status}
+use Rattle.cue_replica.specs.declared.question.Status.TheVariants as statuses
 use Rattle.cue_journal.specs.Cursors.{cursor_text}
 use Rattle.cue_journal.specs.Listed.{Listed, next_of}
 use Rattle.cue_service.specs.Tags.{tag_of}

@@ -25,10 +25,9 @@ use crate::responses::{answer_body, answer_field, answer_status, answer_tagged, 
 use crate::route::{PieceKind, Route, route_of};
 use crate::standing::Standing;
 use bytes::Bytes;
-use cue_answer::{SiteQuestion, Status};
 use cue_journal::{Batch, BlockError, Pieces};
 use cue_lattice::{Kind, Memory, Refusal};
-use cue_replica::Replica;
+use cue_replica::{Replica, SiteQuestion, Status};
 use http::{HeaderValue, Request, StatusCode, header};
 use http_server::Response;
 use std::alloc::Global;

@@ -4,8 +4,8 @@ ghost use Rattle.cue_service.specs.Kept.{AreAnswersKept, IsKeptAnswer};
 ghost use Rattle.cue_service.specs.Tags.{tag_of};
 
 use bytes::Bytes;
-use cue_answer::{Answer, SiteQuestion, Status};
 use cue_lattice::Memory;
+use cue_replica::{Answer, SiteQuestion, Status};
 use http::HeaderValue;
 
 /// What was told of a table. Its bytes are shared.

@@ -7,9 +7,9 @@ ghost use Rattle.cue_service.specs.Statuses.{place_field, place_fields};
 
 use crate::responses::{answer_body, answer_status};
 use bytes::Bytes;
-use cue_answer::SiteQuestion;
 use cue_journal::{PieceCursor, Pieces};
 use cue_lattice::Memory;
+use cue_replica::SiteQuestion;
 use http::{HeaderName, HeaderValue, Request, StatusCode};
 use http_server::Response;
 use std::alloc::Global;

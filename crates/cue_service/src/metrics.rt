@@ -3,8 +3,8 @@ ghost use Rattle.std.specs.Prelude.{◌≡◌, IfOk};
 use crate::board::CachedTable;
 use crate::shown::Shown;
 use crate::standing::Standing;
-use cue_answer::{SiteQuestion, Status};
 use cue_lattice::Memory;
+use cue_replica::{SiteQuestion, Status};
 use std::alloc::Global;
 use std::fmt::Write;
 

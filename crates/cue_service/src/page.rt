@@ -4,8 +4,8 @@ ghost use Rattle.cue_service.specs.Pages.{IsPage};
 use crate::board::CachedTable;
 use crate::markup::{Markup, add_markup, add_text};
 use crate::standing::{SourceStanding, Standing};
-use cue_answer::{SiteQuestion, Status};
 use cue_lattice::Memory;
+use cue_replica::{SiteQuestion, Status};
 use std::alloc::Global;
 
 /// One page for a person: what conflicts and what is incomplete, the printed text, and the other

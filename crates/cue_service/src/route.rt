@@ -2,7 +2,7 @@ ghost use Rattle.cue_service.specs.Requests.{IsRoute};
 ghost use Rattle.cue_service.specs.Inner.Routes.{IsReadAt, IsWrittenAt};
 
 use bytes::Bytes;
-use cue_answer::SiteQuestion;
+use cue_replica::SiteQuestion;
 use http::Request;
 
 /// What is handed in.

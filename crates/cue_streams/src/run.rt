@@ -1,6 +1,6 @@
 use crate::line::{End, Line};
 use anyhow::anyhow;
-use cue_answer::{SiteQuestion, answer_to};
+use cue_replica::{SiteQuestion, answer_to};
 use cue_wire::{Client, Kind, Replica, Session};
 use std::alloc::Global;
 

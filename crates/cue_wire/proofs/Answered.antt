@@ -9,11 +9,11 @@ use Rattle.cue_replica.specs.declared.world.Outcome.TheVariants.{Accepted, Refus
 use Rattle.cue_replica.specs.Language.{Table, language}
 use Rattle.cue_replica.specs.Replica.{AddsRefusals}
 use Rattle.cue_replica.specs.World.{SubmitsText, TakesState}
-use Rattle.cue_answer.specs.declared.question.SiteQuestion.{SiteQuestion}
-use Rattle.cue_answer.specs.declared.question.SiteQuestion.TheVariants as questions
-use Rattle.cue_answer.specs.declared.question.Status.{Status}
-use Rattle.cue_answer.specs.declared.question.Status.TheVariants as statuses
-use Rattle.cue_answer.specs.Answers.{WritesAnswerPrefix, IsAnswer, WritesAnswer}
+use Rattle.cue_replica.specs.declared.question.SiteQuestion.{SiteQuestion}
+use Rattle.cue_replica.specs.declared.question.SiteQuestion.TheVariants as questions
+use Rattle.cue_replica.specs.declared.question.Status.{Status}
+use Rattle.cue_replica.specs.declared.question.Status.TheVariants as statuses
+use Rattle.cue_replica.specs.Answers.{WritesAnswerPrefix, IsAnswer, WritesAnswer}
 use Rattle.cue_wire.specs.Frames.{frame_limit}
 use Rattle.cue_wire.specs.Serving.{accepted_reply, refused_reply, reply_too_long, told_bytes, IsHandedRequest, IsReply, IsRequestAnswered, IsReplyTooLong}
 

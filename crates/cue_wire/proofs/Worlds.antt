@@ -14,7 +14,7 @@ use Rattle.cue_replica.specs.Replica.{AddsRefusals}
 use Rattle.cue_replica.specs.World.{SubmitsText, TakesState}
 use Rattle.cue_replica.proofs.Adding.{one_piece, unified_more}
 use Rattle.cue_replica.proofs.Along.{length-along, along_at, along_set, along_push, set_same, found_within}
-use Rattle.cue_answer.specs.declared.question.SiteQuestion.TheVariants as questions
+use Rattle.cue_replica.specs.declared.question.SiteQuestion.TheVariants as questions
 use Rattle.cue_wire.specs.Frames.{frame_limit, IsBody}
 use Rattle.cue_wire.specs.Requests.{Request, text, state, ask, body_of_request, IsRequest}
 use Rattle.cue_wire.specs.Serving.{AnswersRequests, IsHandedRequest, Serves, ServesAll}

@@ -1,7 +1,7 @@
 -- What a client sends, and what it makes of its stream of replies.
 use Rattle.std.specs.Prelude.{ℕ, List, map, string_bytes, Vec}
 use Rattle.std.specs.Global.{Global}
-use Rattle.cue_answer.specs.declared.question.SiteQuestion.TheVariants as questions
+use Rattle.cue_replica.specs.declared.question.SiteQuestion.TheVariants as questions
 use Rattle.cue_wire.specs.declared.request.Request as requests
 use Rattle.cue_wire.specs.declared.request.Request.TheVariants as asked
 use Rattle.cue_wire.specs.Frames.{AreFrames, IsUnfinished, IsBody, frame_of}

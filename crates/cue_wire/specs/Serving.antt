@@ -8,10 +8,10 @@ use Rattle.cue_replica.specs.declared.world.Outcome.{Outcome}
 use Rattle.cue_replica.specs.declared.world.Outcome.TheVariants.{Accepted, Refused}
 use Rattle.cue_replica.specs.Language.{Table}
 use Rattle.cue_replica.specs.World.{SubmitsText, TakesState}
-use Rattle.cue_answer.specs.declared.question.SiteQuestion.{SiteQuestion}
-use Rattle.cue_answer.specs.declared.question.SiteQuestion.TheVariants as questions
-use Rattle.cue_answer.specs.declared.question.Status.{Status}
-use Rattle.cue_answer.specs.Answers.{IsAnswer, code_of}
+use Rattle.cue_replica.specs.declared.question.SiteQuestion.{SiteQuestion}
+use Rattle.cue_replica.specs.declared.question.SiteQuestion.TheVariants as questions
+use Rattle.cue_replica.specs.declared.question.Status.{Status}
+use Rattle.cue_replica.specs.Answers.{IsAnswer, code_of}
 use Rattle.cue_wire.specs.Frames.{frame_of, frame_limit}
 use Rattle.cue_wire.specs.Requests.{Request, text, state, ask, IsRequest, IsNoRequest}
 

@@ -10,7 +10,7 @@ use Rattle.cue_replica.specs.declared.world.Outcome as steps
 use Rattle.cue_replica.specs.declared.world.Outcome.TheVariants.{Accepted, Refused}
 use Rattle.cue_replica.specs.Language.{Table, language}
 use Rattle.cue_replica.specs.World.{SubmitsText, TakesState}
-use Rattle.cue_answer.specs.declared.question.SiteQuestion.TheVariants as questions
+use Rattle.cue_replica.specs.declared.question.SiteQuestion.TheVariants as questions
 use Rattle.cue_wire.specs.Frames.{frame_limit, IsBody}
 use Rattle.cue_wire.specs.Requests.{Request, text, state, ask, IsRequest, IsNoRequest}
 use Rattle.cue_wire.specs.Serving.{AnswersRequests, accepted_reply, refused_reply, ServesAll}

@@ -13,8 +13,7 @@ use crate::reply::{SHORT_REPLY, accept, refuse};
 use crate::state_reply::add_state_reply;
 use crate::text_reply::add_text_reply;
 use crate::want::{memory_kind, want_of};
-use cue_answer::SiteQuestion;
-use cue_replica::{Kind, Memory, Refusal, Replica};
+use cue_replica::{Kind, Memory, Refusal, Replica, SiteQuestion};
 use std::alloc::Global;
 
 /// Serves a frame's body, and adds the reply.

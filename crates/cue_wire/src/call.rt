@@ -2,7 +2,7 @@ ghost use Rattle.std.specs.Prelude.{◌≡◌, [], IfSome, IfNone};
 ghost use Rattle.cue_wire.specs.Requests.{IsRequest, IsNoRequest};
 ghost use Rattle.cue_wire.specs.Inner.Calls.{request_of};
 
-use cue_answer::SiteQuestion;
+use cue_replica::SiteQuestion;
 use std::str;
 
 /// What a frame's body asks of a site.

@@ -4,8 +4,7 @@ ghost use Rattle.std.specs.Prelude.{length};
 ghost use Rattle.cue_wire.specs.Frames.{frame_limit};
 
 use crate::frame::FRAME_LIMIT;
-use cue_answer::TextSink;
-use cue_replica::Memory;
+use cue_replica::{Memory, TextSink};
 use std::alloc::Global;
 
 /// The front of a text, of at most as many bytes as a frame's body has.

@@ -1,12 +1,11 @@
 //! The reply that tells an answer in a text.
 ghost use Rattle.std.specs.Prelude.{◌≡◌, ◌++◌, ℕ, List, OnOk, OnErr};
-ghost use Rattle.cue_answer.specs.Answers.{of_text};
+ghost use Rattle.cue_replica.specs.Answers.{of_text};
 ghost use Rattle.cue_wire.specs.Serving.{IsRequestAnswered, IsReply, told_bytes};
 
 use crate::page::Page;
 use crate::reply::{accept, refuse};
-use cue_answer::{Status, TextQuestion, write_answer};
-use cue_replica::{Kind, Memory, Refusal, Replica};
+use cue_replica::{Kind, Memory, Refusal, Replica, Status, TextQuestion, write_answer};
 use std::alloc::Global;
 
 /// Adds the reply to a question whose answer is a text. The text goes to a page while it is made,

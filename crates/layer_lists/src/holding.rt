@@ -1,9 +1,9 @@
 //! What a site holds in the end, against what it must hold.
 use anyhow::{Context, anyhow};
-use cue_answer::{SiteQuestion, answer_to, to_printed};
 use cue_layers::{Layer, LayerKind, Layers, LayersRefusal, Replica};
 use cue_layers_why::{why, why_lines};
 use cue_places::read_path;
+use cue_replica::{SiteQuestion, answer_to, to_printed};
 use serde_json::Value;
 use std::alloc::Global;
 

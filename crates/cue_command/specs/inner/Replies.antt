@@ -1,6 +1,6 @@
 -- What is printed of a run that was not stopped.
 use Rattle.std.specs.Prelude.{◌≡◌, ◌⊎◌, ℕ, List, Some}
-use Rattle.cue_answer.specs.Answers.{code_of}
+use Rattle.cue_replica.specs.Answers.{code_of}
 use Rattle.cue_program.specs.Inputs.{IsUnified, inputs_of}
 use Rattle.cue_program.specs.Outlets.{AddsBytes, BreaksAfter, IsOutputUntouched, Passage}
 use Rattle.cue_command.specs.Faults.{IsComplaint}

@@ -1,6 +1,6 @@
 -- What stands at a path, for those who read and for those who write.
 use Rattle.std.specs.Prelude.{◌≡◌, ℕ, List, codes}
-use Rattle.cue_answer.specs.declared.question.SiteQuestion.TheVariants as questions
+use Rattle.cue_replica.specs.declared.question.SiteQuestion.TheVariants as questions
 use Rattle.cue_service.specs.declared.route.Route.{Route}
 use Rattle.cue_service.specs.declared.route.Route.TheVariants.{Ask, Pieces, Take, Health, Metrics, Page, OtherMethod, Unknown}
 use Rattle.cue_service.specs.declared.route.PieceKind.TheVariants as hands

@@ -2,9 +2,8 @@
 
 use crate::serve::pushes::{Told, texts_of};
 use crate::serve::sockets::{ACCEPTED, TEXT, heard, sent};
-use cue_answer::Status;
 use cue_net::{NetError, push_for, serve_for};
-use cue_replica::Kind;
+use cue_replica::{Kind, Status};
 use cue_wire::Request;
 use std::alloc::Global;
 use std::io;

@@ -1,10 +1,9 @@
 //! The client's end over replies in memory, and both ends over a connection of this process.
 
 use crate::serve::devices::{Input, Output};
-use cue_answer::{Answer, Status};
 use cue_device::{Reader, Sink, Source, Writer};
 use cue_net::{MAX_TURNS, NetError, kind_of, loop_for, push};
-use cue_replica::{Kind, Refusal};
+use cue_replica::{Answer, Kind, Refusal, Status};
 use cue_wire::Request;
 use std::alloc::Global;
 use std::net::{Net, TcpListener, TcpStream};

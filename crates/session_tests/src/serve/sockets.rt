@@ -1,7 +1,7 @@
 //! Several connections over sockets of this process, served one after the other.
 
-use cue_answer::Status;
 use cue_net::{Port, serve_from};
+use cue_replica::Status;
 use std::io;
 use std::io::{Read, Write};
 use std::net::{Ipv4Addr, Net, Shutdown, SocketAddr, TcpListener, TcpStream};

@@ -5,10 +5,9 @@ ghost use Rattle.cue_device.specs.Streams.{reader_calls, writer_calls};
 
 use crate::serve::devices::{Input, Output};
 use crate::serve::pushes::{Told, texts_of};
-use cue_answer::Status;
 use cue_device::{Fault, Reader, Writer};
 use cue_net::{End, NetError, Network, loop_for, push_for, serve_for};
-use cue_replica::Kind;
+use cue_replica::{Kind, Status};
 use cue_wire::Request;
 use std::alloc::Global;
 use std::test::Fail;

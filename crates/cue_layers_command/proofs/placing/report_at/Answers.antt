@@ -1,6 +1,6 @@
 use Rattle.std.proofs.Common.{List, ℕ, Some, Vec, Global, string_bytes, ap, subst, sym}
 use Rattle.cue_replica.specs.Reports.{WritesConflictsOf}
-use Rattle.cue_answer.specs.declared.question.SiteQuestion.TheVariants as questions
+use Rattle.cue_replica.specs.declared.question.SiteQuestion.TheVariants as questions
 use Rattle.cue_layers_command.specs.Places.{IsShownAt}
 use Rattle.cue_layers_command.proofs.Places.{report_shown}
 use Rattle.cue_layers_command.proofs.placing.report_at.Goals as goal

@@ -1,6 +1,6 @@
 use Rattle.std.proofs.Common.{Result, Ok, Err, IfOk}
-use Rattle.cue_answer.proofs.OneAnswer.{shown_by}
-use Rattle.cue_answer.specs.declared.question.SiteQuestion.TheVariants as questions
+use Rattle.cue_replica.proofs.OneAnswer.{shown_by}
+use Rattle.cue_replica.specs.declared.question.SiteQuestion.TheVariants as questions
 use Rattle.cue_net.specs.Printed.{IsPrintedExport}
 use Rattle.cue_net.proofs.serving.export_answer.Goals as goal
 

@@ -1,6 +1,6 @@
 use Rattle.std.proofs.Common.{IfErr, IfOk, subst, sym}
-use Rattle.cue_answer.specs.declared.SiteQuestion.{SiteQuestion}
-use Rattle.cue_answer.specs.declared.Status.TheVariants.{Done}
+use Rattle.cue_replica.specs.declared.SiteQuestion.{SiteQuestion}
+use Rattle.cue_replica.specs.declared.Status.TheVariants.{Done}
 use Rattle.cue_program.specs.Outlets.{passage_of}
 use Rattle.cue_program.specs.Runs.{IsAnswerAdded, IsAnswerCut}
 use Rattle.cue_program.proofs.Tellings.{state_added, state_cut}

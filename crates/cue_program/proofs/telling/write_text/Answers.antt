@@ -1,6 +1,6 @@
 use Rattle.std.proofs.Common.{refl, subst}
 use Rattle.std.proofs.lemmas.Result.{err_from_is_err_and}
-use Rattle.cue_answer.specs.Answers.{of_text}
+use Rattle.cue_replica.specs.Answers.{of_text}
 use Rattle.cue_program.specs.Outlets.{AddsBytes, BreaksAfter, passage_of}
 use Rattle.cue_program.specs.declared.stop.RunError.TheVariants.{Device}
 use Rattle.cue_program.proofs.Tellings.{end_cut, text_added}

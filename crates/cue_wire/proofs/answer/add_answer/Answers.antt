@@ -1,5 +1,5 @@
 use Rattle.std.proofs.Common.{◌≡◌, ◌++◌, List, OnOk, ℕ, subst}
-use Rattle.cue_answer.specs.declared.question.SiteQuestion.{SiteQuestion}
+use Rattle.cue_replica.specs.declared.question.SiteQuestion.{SiteQuestion}
 use Rattle.cue_wire.specs.Serving.{IsRequestAnswered}
 use Rattle.cue_wire.proofs.Answered.{answered_state}
 use Rattle.cue_wire.proofs.answer.add_answer.Goals as goal

@@ -1,5 +1,5 @@
 use Rattle.std.proofs.Common.{◌≡◌, ◌++◌, OnOk, Some, subst}
-use Rattle.cue_answer.specs.Answers.{of_text, WritesAnswerPrefix}
+use Rattle.cue_replica.specs.Answers.{of_text, WritesAnswerPrefix}
 use Rattle.cue_wire.specs.Inner.Pages.{page_bytes}
 use Rattle.cue_wire.specs.Serving.{refused_reply}
 use Rattle.cue_wire.proofs.Answered.{answered_long}

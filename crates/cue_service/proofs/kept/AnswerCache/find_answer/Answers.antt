@@ -1,6 +1,6 @@
 use Rattle.std.proofs.Common.{sym, subst}
 use Rattle.std.specs.Prelude.{IfSome}
-use Rattle.cue_answer.specs.declared.question.SiteQuestion.{SiteQuestion}
+use Rattle.cue_replica.specs.declared.question.SiteQuestion.{SiteQuestion}
 use Rattle.cue_service.specs.Kept.{IsKeptAnswer}
 use Rattle.cue_service.proofs.Keeping.{behind}
 use Rattle.cue_service.proofs.kept.AnswerCache.find_answer.Goals as goal

@@ -1,5 +1,5 @@
 use Rattle.std.proofs.Common.{subst}
-use Rattle.cue_answer.specs.declared.question.SiteQuestion.{SiteQuestion}
+use Rattle.cue_replica.specs.declared.question.SiteQuestion.{SiteQuestion}
 use Rattle.cue_service.specs.Kept.{IsKeptAnswer}
 use Rattle.cue_service.proofs.kept.AnswerCache.keep.Goals as goal
 

@@ -1,7 +1,7 @@
 use Rattle.std.proofs.Common.{OnErr, subst, sym}
-use Rattle.cue_answer.specs.Answers.{of_text, WritesAnswerPrefix}
-use Rattle.cue_answer.specs.declared.question.TextQuestion.{TextQuestion}
-use Rattle.cue_answer.proofs.telling.write_answer.Goals as goal
+use Rattle.cue_replica.specs.Answers.{of_text, WritesAnswerPrefix}
+use Rattle.cue_replica.specs.declared.question.TextQuestion.{TextQuestion}
+use Rattle.cue_replica.proofs.answering.write_answer.Goals as goal
 
 pub returns-in-Report-clause-begun : goal.returns-in-Report-clause-begun
 returns-in-Report-clause-begun g c =

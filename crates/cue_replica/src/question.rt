@@ -1,5 +1,5 @@
 ghost use Rattle.std.specs.Prelude.{◌≡◌, IfSome, IfNone};
-ghost use Rattle.cue_answer.specs.Answers.{code_of, of_text};
+ghost use Rattle.cue_replica.specs.Answers.{code_of, of_text};
 
 /// What is asked of a site.
 #[derive(Clone, Copy, Debug, PartialEq, Eq)]

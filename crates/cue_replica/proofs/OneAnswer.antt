@@ -4,17 +4,17 @@ use Rattle.std.specs.List.{flat_map}
 use Rattle.serde_json.specs.Written.{compact_text}
 use Rattle.cue_report.proofs.Exported.{same_answers}
 use Rattle.cue_report.proofs.OneReport.{one_conflicts, one_document, one_gaps}
-use Rattle.cue_replica.specs.declared.Conflict.{Conflict}
-use Rattle.cue_replica.specs.declared.Gap.{Gap}
-use Rattle.cue_replica.specs.declared.ExportKind.{ExportKind}
-use Rattle.cue_replica.specs.declared.ExportKind.TheVariants.{Json, Conflicts, Incomplete}
+use Rattle.cue_report.specs.declared.conflict.Conflict.{Conflict}
+use Rattle.cue_report.specs.declared.gap.Gap.{Gap}
+use Rattle.cue_report.specs.declared.outcome.ExportKind.{ExportKind}
+use Rattle.cue_report.specs.declared.outcome.ExportKind.TheVariants.{Json, Conflicts, Incomplete}
 use Rattle.cue_replica.specs.Language.{Table, language}
 use Rattle.cue_replica.specs.Reports.{IsExportAsText, AreConflictsOf, AreGapsOf, conflict_line, gap_line}
-use Rattle.cue_answer.specs.Answers.{IsAnswer, IsShown, HasBytesAndStatus, IsWholeAnswer, line_end, report_lines, report_status, status_of}
-use Rattle.cue_answer.specs.declared.question.SiteQuestion.{SiteQuestion}
-use Rattle.cue_answer.specs.declared.question.SiteQuestion.TheVariants as questions
-use Rattle.cue_answer.specs.declared.question.Status.{Status}
-use Rattle.cue_answer.specs.declared.told.Answer.{Answer}
+use Rattle.cue_replica.specs.Answers.{IsAnswer, IsShown, HasBytesAndStatus, IsWholeAnswer, line_end, report_lines, report_status, status_of}
+use Rattle.cue_replica.specs.declared.question.SiteQuestion.{SiteQuestion}
+use Rattle.cue_replica.specs.declared.question.SiteQuestion.TheVariants as questions
+use Rattle.cue_replica.specs.declared.question.Status.{Status}
+use Rattle.cue_replica.specs.declared.answers.Answer.{Answer}
 
 module _ (table : Table) where
   pub same_conflicts : (xs ys : List Conflict) → AreConflictsOf table xs → AreConflictsOf table ys → xs ≡ ys

@@ -1,7 +1,7 @@
 -- The status of a report with lines.
 use Rattle.std.specs.Prelude.{Bool, true, false}
-use Rattle.cue_answer.specs.declared.question.Status.{Status}
-use Rattle.cue_answer.specs.declared.question.Status.TheVariants as statuses
+use Rattle.cue_replica.specs.declared.question.Status.{Status}
+use Rattle.cue_replica.specs.declared.question.Status.TheVariants as statuses
 
 -- by whether it has lines of conflicts and whether it has lines of gaps
 abbrev pub lines_status : Bool → Bool → Status

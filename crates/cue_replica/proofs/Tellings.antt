@@ -5,17 +5,17 @@ use Rattle.std.specs.List.{flat_map}
 use Rattle.cue_device.specs.Texts.{WritesPrefix}
 use Rattle.cue_device.proofs.Texts.{appends_then, begins_later, begins_now}
 use Rattle.cue_lattice.specs.Bools.{is_nil}
-use Rattle.cue_replica.specs.declared.Conflict.{Conflict}
-use Rattle.cue_replica.specs.declared.Gap.{Gap}
-use Rattle.cue_replica.specs.declared.ExportKind.{ExportKind}
+use Rattle.cue_report.specs.declared.conflict.Conflict.{Conflict}
+use Rattle.cue_report.specs.declared.gap.Gap.{Gap}
+use Rattle.cue_report.specs.declared.outcome.ExportKind.{ExportKind}
 use Rattle.cue_replica.specs.Language.{Table}
 use Rattle.cue_replica.specs.Reports.{WritesConflictsPrefixOf, WritesExportPrefixOf, WritesGapsPrefixOf, WritesConflictsOf, WritesExportOf, WritesGapsOf, conflict_line, gap_line, printed_text}
-use Rattle.cue_answer.specs.Answers.{WritesAnswerPrefix, WritesAnswer, report_lines, report_status, status_of}
-use Rattle.cue_answer.specs.Inner.{lines_status}
-use Rattle.cue_answer.specs.declared.question.SiteQuestion.TheVariants as questions
-use Rattle.cue_answer.specs.declared.question.Status.{Status}
-use Rattle.cue_answer.specs.declared.question.Status.TheVariants as statuses
-use Rattle.cue_answer.proofs.OneAnswer.{same_conflicts}
+use Rattle.cue_replica.specs.Answers.{WritesAnswerPrefix, WritesAnswer, report_lines, report_status, status_of}
+use Rattle.cue_replica.specs.Inner.Statuses.{lines_status}
+use Rattle.cue_replica.specs.declared.question.SiteQuestion.TheVariants as questions
+use Rattle.cue_replica.specs.declared.question.Status.{Status}
+use Rattle.cue_replica.specs.declared.question.Status.TheVariants as statuses
+use Rattle.cue_replica.proofs.OneAnswer.{same_conflicts}
 
 -- what holds anyway holds of what was not told
 pub any_err : {T E : Type 0} (r : Result T E) (P : Type 0) → P → OnErr r P

@@ -1,9 +1,10 @@
 ghost use Rattle.std.specs.Prelude.{◌++◌, IfOk};
-ghost use Rattle.cue_answer.specs.Answers.{line_end, of_text, HasBytesAndStatus, IsWholeAnswer};
+ghost use Rattle.cue_replica.specs.Answers.{line_end, of_text, HasBytesAndStatus, IsWholeAnswer};
 
+use crate::answering::write_answer;
 use crate::question::{SiteQuestion, Status, TextQuestion};
-use crate::telling::write_answer;
-use cue_replica::{Memory, Replica};
+use crate::replica::Replica;
+use cue_lattice::Memory;
 use std::alloc::Global;
 
 /// What a site answers: the bytes, and the status of a run that prints them.

@@ -1,5 +1,5 @@
-use Rattle.cue_answer.proofs.Tellings.{any_err, report_half, report_told}
-use Rattle.cue_answer.proofs.telling.write_report.Goals as goal
+use Rattle.cue_replica.proofs.Tellings.{any_err, report_half, report_told}
+use Rattle.cue_replica.proofs.answering.write_report.Goals as goal
 
 pub returns-in_err-lacking-clause-begun : goal.returns-in_err-lacking-clause-begun
 returns-in_err-lacking-clause-begun g c =

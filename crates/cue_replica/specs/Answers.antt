@@ -3,20 +3,20 @@ use Rattle.std.specs.Prelude.{◌≡◌, ℕ, ◌++◌, List, ◌∷◌, [], Opt
 use Rattle.std.specs.Io.KnownBytes.{Appends}
 use Rattle.std.specs.List.{flat_map}
 use Rattle.cue_device.specs.Texts.{WritesPrefix}
-use Rattle.cue_replica.specs.declared.Conflict.{Conflict}
-use Rattle.cue_replica.specs.declared.Gap.{Gap}
-use Rattle.cue_replica.specs.declared.ExportKind.{ExportKind}
-use Rattle.cue_replica.specs.declared.ExportKind.TheVariants as kinds
+use Rattle.cue_report.specs.declared.conflict.Conflict.{Conflict}
+use Rattle.cue_report.specs.declared.gap.Gap.{Gap}
+use Rattle.cue_report.specs.declared.outcome.ExportKind.{ExportKind}
+use Rattle.cue_report.specs.declared.outcome.ExportKind.TheVariants as kinds
 use Rattle.cue_replica.specs.Reports.{IsExportAsText, AreConflictsOf, AreGapsOf, conflict_line}
 use Rattle.cue_replica.specs.Reports.{gap_line, printed_text}
 use Rattle.cue_replica.specs.Language.{Table, language}
-use Rattle.cue_answer.specs.declared.question.Status.{Status}
-use Rattle.cue_answer.specs.declared.question.Status.TheVariants as statuses
-use Rattle.cue_answer.specs.declared.question.SiteQuestion.{SiteQuestion}
-use Rattle.cue_answer.specs.declared.question.SiteQuestion.TheVariants as questions
-use Rattle.cue_answer.specs.declared.question.TextQuestion.{TextQuestion}
-use Rattle.cue_answer.specs.declared.question.TextQuestion.TheVariants as texts
-use Rattle.cue_answer.specs.declared.told.Answer.{Answer}
+use Rattle.cue_replica.specs.declared.question.Status.{Status}
+use Rattle.cue_replica.specs.declared.question.Status.TheVariants as statuses
+use Rattle.cue_replica.specs.declared.question.SiteQuestion.{SiteQuestion}
+use Rattle.cue_replica.specs.declared.question.SiteQuestion.TheVariants as questions
+use Rattle.cue_replica.specs.declared.question.TextQuestion.{TextQuestion}
+use Rattle.cue_replica.specs.declared.question.TextQuestion.TheVariants as texts
+use Rattle.cue_replica.specs.declared.answers.Answer.{Answer}
 
 -- the numbers of the statuses
 abbrev pub code_of : Status → ℕ

@@ -1,11 +1,12 @@
 //! Answers that are written while they are made.
 ghost use Rattle.std.specs.Prelude.{◌≡◌, IfOk, OnErr};
-ghost use Rattle.cue_answer.specs.Answers.{of_text, status_of, WritesAnswerPrefix, WritesAnswer};
-ghost use Rattle.cue_answer.specs.Inner.{lines_status};
+ghost use Rattle.cue_replica.specs.Answers.{of_text, status_of, WritesAnswerPrefix, WritesAnswer};
+ghost use Rattle.cue_replica.specs.Inner.Statuses.{lines_status};
 
 use crate::question::{Status, TextQuestion};
+use crate::replica::Replica;
 use cue_device::TextSink;
-use cue_replica::{ExportKind, Replica};
+use cue_report::ExportKind;
 use std::alloc::Global;
 
 /// Tells what the site answers in a text, while it is made, and how it ends the run that prints it.

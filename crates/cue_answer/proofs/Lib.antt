@@ -1,2 +1,0 @@
-pub mod OneAnswer
-pub mod Tellings
