@@ -1,2 +1,3 @@
 -- What the prover needs and no reader has to believe: only private clauses and proofs cite it.
 pub mod Pieces
+pub mod Starts

@@ -3,14 +3,7 @@ use Rattle.std.specs.Prelude.{◌≡◌, ◌⊎◌, ◌≤◌, ◌++◌, ℕ, Li
 use Rattle.cue_journal.specs.Frames.{file_entries}
 use Rattle.cue_journal.specs.Journals.{end_of}
 use Rattle.cue_journal.specs.Pairs.{IsPairReady, entries_of_pair, growing_of, spare_of}
-use Rattle.cue_journal.specs.Settled.{IsJournalSettled}
 use Rattle.cue_journal.specs.declared.pair.JournalPair.{JournalPair}
-
--- the entries of a file were read, and a journal goes on in it
-pub record IsReadOf {D : Type 0} (seen : D → List ℕ) (may_leave : D → List ℕ → Type 0) (old new : D) (end : ℕ) (entries : List (List ℕ)) : Type 0 where
-  pub read : entries ≡ file_entries (seen old)
-  pub same : file_entries (seen new) ≡ file_entries (seen old)
-  pub settled : IsJournalSettled (seen new) (may_leave new) end
 
 -- the entries of the spare journal and of the one that grows are just those of the two files
 abbrev pub AreOfFiles : List (List ℕ) → List (List ℕ) → List ℕ → List ℕ → Type 0

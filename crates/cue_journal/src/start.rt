@@ -1,7 +1,8 @@
 ghost use Rattle.std.specs.Prelude.{◌≡◌, ◌≤◌, map, IsTrue, IfOk};
 ghost use Rattle.cue_journal.specs.Journals.{disk_of, end_of};
 ghost use Rattle.cue_journal.specs.Pairs.{growing_of, spare_of};
-ghost use Rattle.cue_journal.specs.Starts.{IsReadOf, IsStarted};
+ghost use Rattle.cue_journal.specs.Inner.Starts.{IsReadOf};
+ghost use Rattle.cue_journal.specs.Starts.{IsStarted};
 
 use crate::frames::Unread;
 use crate::journal::{Journal, recover};
