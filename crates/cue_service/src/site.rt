@@ -246,9 +246,10 @@ impl<D: Disk> Settle for Site<D> {
 impl<D: Disk> Gathers for Site<D> {
     ghost use Rattle.cue_service.specs.Sites.{GathersAt, GathersPiecesAt, IsSiteUntouched};
 
-    ghost pulls_state = { λ old bytes _ new. GathersAt bytes old new };
+    ghost pulls_state = { λ old bytes _ new. GathersAt D.Disk.seen D.Disk.may_leave bytes old new };
 
-    ghost pulls_pieces = { λ old bytes _ new. GathersPiecesAt (pieces_of (recovered_pieces bytes)) old new };
+    ghost pulls_pieces = { λ old bytes _ new.
+        GathersPiecesAt D.Disk.seen D.Disk.may_leave (pieces_of (recovered_pieces bytes)) old new };
 
     ghost rests = { IsSiteUntouched };
 
