@@ -11,7 +11,7 @@ use cue_service::{
 };
 use http::Request;
 use http_server::{Response, Settle};
-use sqlite_disk::Memory;
+use sqlite_disk::{Disk, Memory};
 use std::alloc::Global;
 use std::io::ErrorKind;
 use std::test::Fail;
