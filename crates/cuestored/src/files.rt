@@ -202,7 +202,11 @@ fn bring_over(rt: &HostRuntime, folder: &str, path: &str, site: &mut Site<File>)
     let (entries, end) = read_pieces(alloc, &bytes)?;
     // A site passes over what it refuses, and such a file has no checksums.
     add_entries(&mut Replica::new(alloc), &entries).map_err(SettingsError::of_entry)?;
-    if !site.pull_pieces(&bytes[..end]) || !site.settle() {
+    let whole = match bytes.split_at_checked(end) {
+        Some((whole, _)) => whole,
+        None => &bytes,
+    };
+    if !site.pull_pieces(whole) || !site.settle() {
         return Err(SettingsError::system(alloc, "write", path, site.fault()).into());
     }
     let converted = format!(in alloc; "{path}.converted")?;
