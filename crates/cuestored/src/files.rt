@@ -190,6 +190,14 @@ fn set_old_aside(rt: &HostRuntime, folder: &str, path: &str, beside: &str) -> Re
     Ok(())
 }
 
+/// The first bytes, so many, or all where there are fewer.
+fn front(bytes: &[u8], count: usize) -> &[u8] {
+    match bytes.split_at_checked(count) {
+        Some((front, _)) => front,
+        None => bytes,
+    }
+}
+
 /// Takes in the entries of a file of an older build that was set aside, has them reach the disk, and
 /// then calls the file `.converted`. Once more it brings nothing new.
 fn bring_over(rt: &HostRuntime, folder: &str, path: &str, site: &mut Site<File>) -> Result<()> {
@@ -202,11 +210,7 @@ fn bring_over(rt: &HostRuntime, folder: &str, path: &str, site: &mut Site<File>)
     let (entries, end) = read_pieces(alloc, &bytes)?;
     // A site passes over what it refuses, and such a file has no checksums.
     add_entries(&mut Replica::new(alloc), &entries).map_err(SettingsError::of_entry)?;
-    let whole = match bytes.split_at_checked(end) {
-        Some((whole, _)) => whole,
-        None => &bytes,
-    };
-    if !site.pull_pieces(whole) || !site.settle() {
+    if !site.pull_pieces(front(&bytes, end)) || !site.settle() {
         return Err(SettingsError::system(alloc, "write", path, site.fault()).into());
     }
     let converted = format!(in alloc; "{path}.converted")?;
