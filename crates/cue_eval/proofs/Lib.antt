@@ -54,4 +54,7 @@ pub mod Finding
 pub mod Kept
 pub mod Taking
 pub mod TextTerms
+pub mod IntegerTerms
 pub mod OtherTexts
+pub mod OtherIntegers
+pub mod AllBut

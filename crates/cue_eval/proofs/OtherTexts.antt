@@ -1,43 +1,35 @@
 -- Parts that are each `!=` and a text.
 use Rattle.std.proofs.Common.{◌≡◌, ◌<◌, ℕ, Bool, true, false, not, ◌&&◌, ◌||◌, List, [], ◌∷◌, ◌++◌, map, length, refl, sym, ap, subst, ◌∙◌, append_assoc, arith}
-use Rattle.std.specs.Prelude.{Result, Ok, Err, IfOk, None, Some, is_some, if◌then◌else◌}
+use Rattle.std.specs.Prelude.{None, Some, is_some, if◌then◌else◌}
 use Rattle.std.specs.List.{list_all, list_any}
 use Rattle.std.specs.Str.{bytes_eq}
 use Rattle.std.proofs.lemmas.List.{map-append}
 use Rattle.cue_lattice.specs.declared.scalar.Scalar.{Scalar}
 use Rattle.cue_lattice.specs.declared.scalar.Scalar.TheVariants as scalars
-use Rattle.cue_lattice.specs.Question.{SameAnswers}
-use Rattle.cue_row.specs.declared.parts.RowParts.{RowParts as Row}
 use Rattle.cue_sets.specs.Texts.{is_listed}
 use Rattle.cue_scalars.specs.Pairs.{ScalarPair, ScalarMembers, all_of, default_or_value}
 use Rattle.cue_scalars.specs.Values.{pair_of_value}
 use Rattle.cue_scalars.specs.declared.valued.Valued.{Valued}
-use Rattle.cue_table.specs.Tree.{Tree}
 use Rattle.cue_syntax.specs.declared.tree.Expr.{Expr}
 use Rattle.cue_syntax.specs.declared.tree.Expr.TheVariants as exprs
 use Rattle.cue_syntax.specs.Syntax.{elements_of_list}
 use Rattle.cue_syntax.proofs.Views.{view-OtherText}
 use Rattle.cue_scope.specs.Core.{Cores, no_cores, core, conjunction, other_text, are_scalar}
 use Rattle.cue_eval.specs.declared.pair.Pairs.{Pairs}
-use Rattle.cue_eval.specs.Evaluated.{HasAnswersOf}
-use Rattle.cue_eval.specs.Inner.Gathered.{TreeRefusals}
 use Rattle.cue_eval.specs.Inner.Known.{core_of, parts_of}
-use Rattle.cue_eval.specs.Inner.Written.{IsAllButTexts}
-use Rattle.cue_eval.specs.Laws.{AllHaveParts}
+use Rattle.cue_eval.specs.Inner.Written.{IsAllBut, IsAllButTexts}
+use Rattle.cue_eval.specs.Laws.{AllHaveParts, HasParts}
 use Rattle.cue_eval.specs.Pairs.{pairs_of, plain_pair}
-use Rattle.cue_eval.specs.Places.{IsAtPlace, ScalarRefuses}
 use Rattle.cue_eval.specs.Sets.{all_texts}
-use Rattle.cue_eval.proofs.ByPair.{by_pair}
-use Rattle.cue_eval.proofs.Leaves.{by_its_pair}
 
--- one more text of a loop over parts
-pub parts_more : (all left rest : List Expr) (texts : List (List ℕ)) (part : Expr) (text : List ℕ) → map exprs.OtherText texts ++ left ≡ all → left ≡ part ∷ rest → part ≡ exprs.OtherText text
-    → map exprs.OtherText (texts ++ text ∷ []) ++ rest ≡ all
-parts_more all left rest texts part text so_far is writes =
-    ap (λ xs. xs ++ rest) (map-append exprs.OtherText texts (text ∷ []))
-    ∙ append_assoc (map exprs.OtherText texts) (exprs.OtherText text ∷ []) rest
-    ∙ ap (λ e. map exprs.OtherText texts ++ e ∷ rest) (sym writes)
-    ∙ ap (λ xs. map exprs.OtherText texts ++ xs) (sym is)
+-- one more of a loop over parts
+pub parts_more : {X : Type 0} (write : X → Expr) (all left rest : List Expr) (xs : List X) (part : Expr) (x : X) → map write xs ++ left ≡ all → left ≡ part ∷ rest → part ≡ write x
+    → map write (xs ++ x ∷ []) ++ rest ≡ all
+parts_more write all left rest xs part x so_far is writes =
+    ap (λ ps. ps ++ rest) (map-append write xs (x ∷ []))
+    ∙ append_assoc (map write xs) (write x ∷ []) rest
+    ∙ ap (λ e. map write xs ++ e ∷ rest) (sym writes)
+    ∙ ap (λ ps. map write xs ++ ps) (sym is)
     ∙ so_far
 
 -- what they mean
@@ -84,16 +76,14 @@ other_pair text texts =
     ap (λ (members : ScalarMembers). record { value = members; usual = if list_any (λ part. is_some part.usual) pairs then Some (λ scalar. list_all (λ part. default_or_value part scalar) pairs) else None }) value
     ∙ ap (λ some. record { value = all_texts (λ t. not (is_listed (text ∷ texts) t)); usual = if some then Some (λ scalar. list_all (λ part. default_or_value part scalar) pairs) else None }) (no_default (text ∷ texts))
 
-answers_of : (texts : List (List ℕ)) (v : Valued) (table : Tree Row) → 0 < length texts → pair_of_value v ≡ plain_pair (all_texts (λ t. not (is_listed texts t)))
-    → SameAnswers (TreeRefusals table) (IsAtPlace (ScalarRefuses (pair_of_value v))) → HasAnswersOf (conjunction (others texts)) table
-answers_of [] v table some is same = absurd (omega arith)
-answers_of (text ∷ texts) v table some is same =
-    by_its_pair (conjunction (others (text ∷ texts))) v table (by_pair (conjunction (others (text ∷ texts))) (all_scalar (text ∷ texts)) (tt, all_whole texts)) (is ∙ sym (other_pair text texts)) same
+known_others : (texts : List (List ℕ)) (v : Valued) → 0 < length texts → pair_of_value v ≡ plain_pair (all_texts (λ t. not (is_listed texts t))) → IsAllBut (map exprs.OtherText texts) v
+known_others [] v some is = absurd (omega arith)
+known_others (text ∷ texts) v some is = record {
+  scalar = λ known. ap are_scalar (parts_mean known (text ∷ texts)) ∙ all_scalar (text ∷ texts);
+  parted = λ known. subst (λ cs. HasParts (conjunction cs)) (sym (parts_mean known (text ∷ texts))) (tt, all_whole texts);
+  value = λ known. is ∙ sym (other_pair text texts) ∙ ap (λ cs. all_of (pairs_of cs)) (sym (parts_mean known (text ∷ texts)));
+}
 
--- the table of such parts
-pub others_result : {E : Type 0} (r : Result (Tree Row) E) (known : Pairs) (parts : List Expr) (v : Valued) → IsAllButTexts parts v
-    → IfOk r (λ table. SameAnswers (TreeRefusals table) (IsAtPlace (ScalarRefuses (pair_of_value v)))) → IfOk r (HasAnswersOf (conjunction (parts_of known (elements_of_list parts))))
-others_result (Ok table) known parts v are same =
-    let meant : parts_of known (elements_of_list parts) ≡ others are.texts = ap (λ es. parts_of known (elements_of_list es)) are.written ∙ parts_mean known are.texts in
-    subst (λ cs. HasAnswersOf (conjunction cs) table) (sym meant) (answers_of are.texts v table are.some are.value same)
-others_result (Err x) known parts v are same = same
+-- their value is what they let stand together
+pub others_known : (parts : List Expr) (v : Valued) → IsAllButTexts parts v → IsAllBut parts v
+others_known parts v are = subst (λ ps. IsAllBut ps v) (sym are.written) (known_others are.texts v are.some are.value)

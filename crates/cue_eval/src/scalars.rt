@@ -161,7 +161,7 @@ fn integers_between(alloc: Global, low: i64, high: i64) -> Result<Valued, Memory
 }
 
 /// The members of a set of integers.
-fn of_integers(alloc: Global, ints: IntSet) -> Valued
+pub(crate) fn of_integers(alloc: Global, ints: IntSet) -> Valued
     ensures { (test : ℤ → Bool) →
         ((n : ℤ) → is_member ints n ≡ (is_int64 n && test n)) →
         pair_of_value result ≡ plain_pair (sets.integers test) }

@@ -28,7 +28,7 @@ use crate::build::{
     list_of, mark, push_scalars, put_behind, scalar_table, step_to, struct_of, table_of,
 };
 use crate::labels::labels_of;
-use crate::pair::{Pairs, all_but_texts};
+use crate::pair::{Pairs, all_but};
 use crate::parts::{is_scalar_part, number_of, remove_repeats};
 use crate::rows::{integer_row, text_row};
 use crate::scalars::{bottom_value, integer_of};
@@ -138,8 +138,8 @@ impl<'a, 'f, 't> TableBuilder<'a, 'f, 't> {
     }
 
     /// Parts that are joined by `&`. Scalars among them are joined as such and make one table, and
-    /// a definition that several of them name is copied once. Where all are `!=` and texts, these are
-    /// put straight into one set.
+    /// a definition that several of them name is copied once. Where all are `!=` and texts, or `!=` and
+    /// integers, these are put straight into one set.
     #[cycle(rows)]
     fn conjunction(&self, parts: &[Expr]) -> Result<Table<Row>, Memory>
         requires { AreReadyParts self.now (tree.elements_of_list parts.now) }
@@ -147,7 +147,7 @@ impl<'a, 'f, 't> TableBuilder<'a, 'f, 't> {
         ensures answers { IfOk result (HasAnswersOf
             (core.conjunction (parts_of self.now.pairs (tree.elements_of_list parts.now)))) }
     {
-        if let Some(valued) = all_but_texts(self.pairs.alloc, parts)? {
+        if let Some(valued) = all_but(self.pairs.alloc, parts)? {
             return scalar_table(self.pairs.alloc, valued);
         }
         let mut tables = Vec::new(self.pairs.alloc);

@@ -1,4 +1,4 @@
-use Rattle.std.proofs.Common.{◌≡◌, subst, sym, ap, ◌∙◌, drop, ◌+◌, arith, w64, to_z, of_z}
+use Rattle.std.proofs.Common.{◌≡◌, subst, sym, ap, ◌∙◌, drop, ◌+◌, arith, w64, to_z, of_z, ◌&&◌, All}
 use Rattle.std.proofs.lemmas.Int.{ints}
 use denote.Param.Weighed.{most, at_most}
 use Rattle.std.proofs.Common.{◌≤◌}
@@ -14,7 +14,10 @@ use Rattle.cue_eval.specs.Pairs.{pair, plain_pair}
 use Rattle.std.specs.Prelude.{IfSome}
 use Rattle.cue_sets.specs.Texts.{is_listed}
 use Rattle.cue_scalars.specs.Pairs.{disjunction}
-use Rattle.cue_eval.specs.Inner.Written.{AreTextTerms}
+use Rattle.cue_syntax.specs.Grammar.{IsInRange}
+use Rattle.cue_sets.specs.Pieces.{is_int64, is_member}
+use Rattle.cue_eval.specs.Inner.Written.{AreIntegerTerms, AreTextTerms, is_listed_integer}
+use Rattle.cue_eval.proofs.IntegerTerms.{integer_disjunction}
 use Rattle.cue_eval.proofs.TextTerms.{text_disjunction}
 use Rattle.cue_eval.proofs.Pairing.{PairingParts, PairingTerms, part_can, part_more, term_can, term_more}
 use Rattle.cue_eval.proofs.pair.Pairs.+pair.Goals as goal
@@ -65,3 +68,19 @@ disjunction-returns-in-Some-set_of_texts t c =
     let texts = c.in-Some.texts.items in
     let terms : AreTextTerms c.args.terms.now texts = subst (λ found. IfSome found (λ all. AreTextTerms c.args.terms.now all.items)) c.in-Some.is c.in_ok-texts.ensures in
     c.of_texts.ensures (is_listed texts) (λ text. c.in-Some-set_of_texts.ensures text) ∙ sym (text_disjunction texts) ∙ ap disjunction (sym (terms c.args.self.now))
+
+pub disjunction-set_of_integers-requires : goal.disjunction-set_of_integers-requires
+disjunction-set_of_integers-requires t c =
+    let numbers = c.in-Some-2.numbers.items in
+    let terms : AreIntegerTerms c.args.terms.now numbers =
+    subst (λ found. IfSome found (λ all. AreIntegerTerms c.args.terms.now all.items)) c.in-Some-2.is c.in_ok-numbers.ensures in
+    subst (λ ns. All IsInRange ns) (sym c.deref.ensures.value) (terms.in_range c.requires.right)
+
+pub disjunction-returns-in-Some-2 : goal.disjunction-returns-in-Some-2
+disjunction-returns-in-Some-2 t c =
+    let numbers = c.in-Some-2.numbers.items in
+    let terms : AreIntegerTerms c.args.terms.now numbers =
+    subst (λ found. IfSome found (λ all. AreIntegerTerms c.args.terms.now all.items)) c.in-Some-2.is c.in_ok-numbers.ensures in
+    c.of_integers.ensures (is_listed_integer numbers)
+    (λ n. subst (λ ns. is_member c.in_ok-set.set n ≡ (is_int64 n && is_listed_integer ns n)) c.deref.ensures.value (c.in_ok-set.ensures n))
+    ∙ sym (integer_disjunction numbers) ∙ ap disjunction (sym (terms.meant c.args.self.now))

@@ -21,8 +21,8 @@ use Rattle.cue_eval.proofs.LiteralTables.{struct_result, close_result, ElementsA
 use Rattle.cue_eval.proofs.Walks.{entry_first, definition_first, field_first, Gathering, gathering_none, ellipsis_passed, definition_passed, field_ready, field_within, field_gathered, fields_gathered, field_made, nested_depth, within_depth, none_behind}
 use Rattle.cue_eval.proofs.Joined.{part_pairable}
 use Rattle.std.specs.Prelude.{IfSome}
-use Rattle.cue_eval.specs.Inner.Written.{IsAllButTexts}
-use Rattle.cue_eval.proofs.OtherTexts.{others_result}
+use Rattle.cue_eval.specs.Inner.Written.{IsAllBut}
+use Rattle.cue_eval.proofs.AllBut.{others_result}
 use Rattle.cue_eval.proofs.Repeated.{Joining, joining_none, joined_ready, table_joined, scalar_joined, name_joined, named_same, joined_result}
 use Rattle.cue_lattice.specs.Question.{SameAnswers}
 use Rattle.cue_eval.specs.Inner.Gathered.{TreeRefusals, FurtherRefuse}
@@ -59,7 +59,7 @@ literal-returns-clause-answers t c =
 
 pub conjunction-returns-in-Some-clause-answers : goal.conjunction-returns-in-Some-clause-answers
 conjunction-returns-in-Some-clause-answers t c =
-    let are : IsAllButTexts c.args.parts.now c.in-Some.valued = subst (λ found. IfSome found (IsAllButTexts c.args.parts.now)) c.in-Some.is c.in_ok-valued.ensures in
+    let are : IsAllBut c.args.parts.now c.in-Some.valued = subst (λ found. IfSome found (IsAllBut c.args.parts.now)) c.in-Some.is c.in_ok-valued.ensures in
     others_result c.scalar_table.result c.args.self.now.pairs c.args.parts.now c.in-Some.valued are c.scalar_table.ensures.answers
 
 pub conjunction-loop-part-init : goal.conjunction-loop-part-init
