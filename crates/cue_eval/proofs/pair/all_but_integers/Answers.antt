@@ -1,9 +1,8 @@
-use Rattle.std.proofs.Common.{◌≡◌, List, map, not, rules, subst, sym, ap, ◌∙◌, All, ◌&&◌}
+use Rattle.std.proofs.Common.{◌≡◌, map, not, rules, subst, sym, ap, ◌∙◌, All, ◌&&◌}
 use Rattle.std.specs.Prelude.{IfSome}
 use Rattle.cue_sets.specs.Pieces.{is_int64, is_member}
 use Rattle.cue_syntax.specs.Grammar.{IsInRange}
 use Rattle.cue_syntax.specs.declared.tree.Expr.TheVariants.{OtherInteger}
-use Rattle.cue_syntax.specs.declared.tree.Signed.{Signed}
 use Rattle.cue_eval.specs.Inner.Written.{is_listed_integer}
 use Rattle.cue_eval.proofs.OtherIntegers.{others_in_range, all_without}
 use Rattle.cue_eval.proofs.pair.all_but_integers.Goals as goal
