@@ -115,19 +115,22 @@ module _ {R : Type 0} where
   after_gap [] step (suc n) h = tt
   after_gap (c ∷ cs) step (suc n) h = after_gap cs step n (λ k d low less. h (suc k) d (omega arith) (omega arith))
 
+  -- a branch in range that stands at the step is the one there
+  pub place_known : (cs : List (Child R)) (step : Step) (at : ℕ) → StepsRise (branches cs) → at < length cs → ((d : Child R) → step_of (get_or cs at d).step ≡ step) → IsPlace cs step at
+  place_known cs step at a bound same = record {
+    in_range = bound;
+    is_there = λ d. find_at cs step at d a bound (sym (same d));
+    at_step = same;
+    before = before_found cs step at a bound same;
+  }
+
   -- what a binary search by the steps answers
   pub place_searched :
       (cs : List (Child R)) (step : Step) (r : Result ℕ ℕ) → StepsRise (branches cs) → IsSearchInRange r (length cs)
       → IsBinarySearchResult (λ c. step_cmp (step_of c.step) step) cs r
       → MatchResult r (IsPlace cs step) (IsGap cs step)
   place_searched cs step (Ok at) a bound found =
-      let same : (d : Child R) → step_of (get_or cs at d).step ≡ step = λ d. equal_steps _ step (found d) in
-      record {
-        in_range = bound;
-        is_there = λ d. find_at cs step at d a bound (sym (same d));
-        at_step = same;
-        before = before_found cs step at a bound same;
-      }
+      place_known cs step at a bound (λ d. equal_steps _ step (found d))
   place_searched cs step (Err at) a bound found =
       let point = found (ranks_ascend cs step a) in
       record {

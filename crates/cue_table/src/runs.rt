@@ -1,10 +1,10 @@
 //! Where an element is among runs of elements that are alike.
-ghost use Rattle.std.specs.Prelude.{◌≡◌, MatchResult};
+ghost use Rattle.std.specs.Prelude.{◌≡◌, MatchResult, IsTrue};
 ghost use Rattle.std.specs.Option.{option_map};
 ghost use Rattle.cue_lattice.specs.Path.{index};
 ghost use Rattle.cue_table.specs.Inner.Form.{StepsRise};
 ghost use Rattle.cue_table.specs.Inner.Alike.{AreAlike, IsRun, IsBetween, run_cmp};
-ghost use Rattle.cue_table.specs.Inner.Place.{IsGap, IsPlace};
+ghost use Rattle.cue_table.specs.Inner.Place.{HasAtIndex, IsGap, IsPlace};
 ghost use Rattle.cue_table.specs.Inner.View.{branches, run_branches};
 ghost use Rattle.cue_table.specs.Tree.{below, find, step_into};
 
@@ -79,13 +79,27 @@ fn look_in_runs<R: Narrow>(runs: &[ElementRun<R>], number: u32) -> FoundElement<
     }
 }
 
-/// Where an element is among branches, or where it would stand.
+/// Where an element is among branches, or where it would stand. Where a list has each element and no
+/// label stands beside these, an element is at the place that its index says.
 fn element_place<R: Narrow>(children: &[Child<R>], number: u32) -> Result<usize, usize>
     requires { StepsRise (branches children.now) }
     ensures { MatchResult result (IsPlace children.now (index number))
         (IsGap children.now (index number)) }
 {
+    if is_at_index(children, number) {
+        return Ok(number as usize);
+    }
     place(children, &Step::Index(number))
+}
+
+/// Whether as many branches as an index says are in front of the element with this index.
+fn is_at_index<R: Narrow>(children: &[Child<R>], number: u32) -> bool
+    ensures { IsTrue result → HasAtIndex children.now number }
+{
+    match children.get(number as usize) {
+        Some(child) => matches!(child.step(), Step::Index(found) if *found == number),
+        None => false,
+    }
 }
 
 /// The element with an index among branches.

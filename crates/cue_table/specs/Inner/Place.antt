@@ -2,7 +2,7 @@
 use Rattle.std.specs.Prelude.{◌≡◌, ℕ, zero, suc, ◌<◌, ◌≤◌, List, length, slice_index_or, Some, None}
 use Rattle.std.specs.declared.cmp.Ordering.TheVariants.{Less}
 use Rattle.cue_lattice.specs.Path as paths
-use Rattle.cue_lattice.specs.Path.{step_cmp}
+use Rattle.cue_lattice.specs.Path.{index, step_cmp}
 use Rattle.cue_row.specs.Steps.{step_of}
 use Rattle.cue_table.specs.Form.{IsStepBelowAll}
 use Rattle.cue_table.specs.Tree.{Children, none, child, find}
@@ -38,3 +38,8 @@ pub record IsGap {R : Type 0} (children : List (Child R)) (step : paths.Step)
   pub absent : find step (branches children) ≡ None
   pub before : AreBefore at step (branches children)
   pub after : IsStepBelowAll step (branches_past at (branches children))
+
+-- the element with this index stands at the place of the list that the index says
+pub record HasAtIndex {R : Type 0} (children : List (Child R)) (number : ℕ) : Type 0 where
+  pub in_range : number < length children
+  pub at_step : (d : Child R) → step_of (slice_index_or children number d).step ≡ index number
