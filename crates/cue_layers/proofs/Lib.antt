@@ -3,6 +3,7 @@ pub mod Covers
 pub mod Growing
 pub mod Joined
 pub mod Keys
+pub mod LeavingOut
 pub mod Lists
 pub mod Maps
 pub mod Merged

@@ -1,5 +1,6 @@
 -- What the prover needs and no reader has to believe: only private clauses and proofs cite it.
 pub mod Covers
+pub mod Least
 pub mod Merging
 pub mod Naming
 pub mod Places

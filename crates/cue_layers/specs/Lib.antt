@@ -3,6 +3,7 @@ pub mod Code
 pub mod Inner
 pub mod Join
 pub mod Layers
+pub mod Least
 pub mod Maps
 pub mod Names
 pub mod Puts

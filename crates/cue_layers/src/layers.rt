@@ -194,7 +194,7 @@ impl Layers {
 }
 
 /// The same layers once more.
-fn copy_all(alloc: Global, layers: &[Layer]) -> Result<Vec<Layer>, Memory>
+pub fn copy_all(alloc: Global, layers: &[Layer]) -> Result<Vec<Layer>, Memory>
     ensures { IfOk result (λ copied. copied.items ≡ layers.now) }
 {
     let mut copied = Vec::with_capacity(alloc, layers.len())?;

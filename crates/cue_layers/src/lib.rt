@@ -9,6 +9,7 @@ mod joining;
 mod laws;
 mod layer;
 mod layers;
+mod least;
 mod names;
 mod piece;
 mod putting;

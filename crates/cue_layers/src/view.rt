@@ -62,7 +62,7 @@ fn unified_of(alloc: Global, layers: &[Layer], kind: LayerKind) -> Result<Replic
 }
 
 /// The view of layers, as a site.
-fn view_of(alloc: Global, layers: &[Layer], limit: u64) -> Result<Replica, ViewError>
+pub fn view_of(alloc: Global, layers: &[Layer], limit: u64) -> Result<Replica, ViewError>
     requires { AllByRecursion IsLayer layers.now }
     ensures view { IfOk result (IsViewOf layers.now) }
     ensures few { OnOk result (¬ IsTooLarge limit layers.now) }

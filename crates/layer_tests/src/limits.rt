@@ -1,6 +1,6 @@
 //! The limit of a view.
 use crate::calls::put;
-use cue_layers::{LayerKind, Layers, LayersRefusal};
+use cue_layers::{LayerKind, Layers, LayersRefusal, Memory};
 use std::alloc::Global;
 use std::test::Fail;
 
@@ -68,5 +68,46 @@ fn a_view_that_doubles_at_each_step_is_refused(rt: HostRuntime) -> Result<(), Fa
     put(alloc, &mut map, LayerKind::Policy, "deep", DEEP)?;
     assert!(rt; !is_refused(alloc, &map, 2048)?);
     assert!(rt; is_refused(alloc, &map, 2047)?);
+    Ok(())
+}
+
+/// The names of the layers and policies that alone make the view of a map too large.
+fn names_of_least(alloc: Global, map: &Layers, limit: u64) -> Result<Option<String>, Memory> {
+    let Some(least) = map.least_too_large(alloc, limit)? else {
+        return Ok(None);
+    };
+    let mut names = String::new(alloc);
+    for layer in &least {
+        names.push_str(layer.name.as_str())?;
+        names.push_str(" ")?;
+    }
+    Ok(Some(names))
+}
+
+/// Whether just these layers and policies make the view of a map too large.
+fn are_least(alloc: Global, map: &Layers, limit: u64, names: &str) -> Result<bool, Memory> {
+    let found = names_of_least(alloc, map, limit)?;
+    match found {
+        Some(found) => Ok(found.as_str() == names),
+        None => Ok(names.is_empty()),
+    }
+}
+
+#[test]
+fn layers_that_make_a_view_too_large_are_found(rt: HostRuntime) -> Result<(), Fail> {
+    let alloc = rt.alloc();
+    let mut map = Layers::new(alloc)?;
+    let web = "s: web: replicas: 3\n";
+    let pay = "s: pay: replicas: 2\n";
+    put(alloc, &mut map, LayerKind::Layer, "web", web)?;
+    put(alloc, &mut map, LayerKind::Layer, "pay", pay)?;
+    put(alloc, &mut map, LayerKind::Layer, "other", "t: 1\n")?;
+    let tls = "s: \"*\": tls: true\n";
+    put(alloc, &mut map, LayerKind::Policy, "tls", tls)?;
+    assert!(rt; are_least(alloc, &map, 9, "")?);
+    assert!(rt; are_least(alloc, &map, 8, "other pay web tls ")?);
+    assert!(rt; are_least(alloc, &map, 7, "pay web tls ")?);
+    assert!(rt; are_least(alloc, &map, 5, "pay web tls ")?);
+    assert!(rt; are_least(alloc, &map, 0, "tls ")?);
     Ok(())
 }
