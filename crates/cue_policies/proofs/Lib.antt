@@ -9,6 +9,7 @@ pub mod FormWalks
 pub mod Gains
 pub mod Gathering
 pub mod InOrder
+pub mod Misplacing
 pub mod Places
 pub mod Pruned
 pub mod Sizes

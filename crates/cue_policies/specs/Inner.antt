@@ -2,5 +2,6 @@
 pub mod Answers
 pub mod Below
 pub mod Forms
+pub mod Misplaced
 pub mod Parts
 pub mod Rows

@@ -1,6 +1,7 @@
 pub mod Documents
 pub mod Inner
 pub mod Laws
+pub mod Misplaced
 pub mod Patterns
 pub mod Rows
 pub mod Tables

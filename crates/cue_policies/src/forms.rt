@@ -87,7 +87,7 @@ fn may_step(in_list: bool, step: StepRef) -> bool
 }
 
 /// Whether what is below a step is in a list.
-fn is_in_list(in_list: bool, step: StepRef) -> bool
+pub(crate) fn is_in_list(in_list: bool, step: StepRef) -> bool
     ensures { result ≡ below_step in_list (step_at step.entry) }
 {
     match step {

@@ -7,6 +7,7 @@ mod forms;
 mod kind;
 mod labels;
 mod laws;
+mod misplaced;
 mod names;
 mod part;
 mod place;
@@ -21,4 +22,5 @@ pub use laws::{
     documents_of_views, policies_stay_well_formed, views_in_any_order, views_of_two,
     views_without_patterns,
 };
+pub use misplaced::misplaced_pattern;
 pub use view::whole_view;
