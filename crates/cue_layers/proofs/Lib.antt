@@ -19,3 +19,4 @@ pub mod Replacing
 pub mod States
 pub mod TooLarge
 pub mod Viewing
+pub mod Walks

@@ -7,3 +7,4 @@ pub mod Places
 pub mod Putting
 pub mod Reading
 pub mod Viewing
+pub mod Walks

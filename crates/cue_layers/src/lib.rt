@@ -9,6 +9,7 @@ mod joining;
 mod laws;
 mod layer;
 mod layers;
+mod layers_writer;
 mod least;
 mod names;
 mod piece;
@@ -27,6 +28,7 @@ pub use laws::{
 };
 pub use layer::Layer;
 pub use layers::Layers;
+pub use layers_writer::LayersWriter;
 pub use names::bad_place;
 pub use piece::Piece;
 pub use refusal::LayersRefusal;

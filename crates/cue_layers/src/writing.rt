@@ -30,7 +30,7 @@ impl Layers {
 }
 
 /// The byte of a kind.
-fn byte_of(kind: LayerKind) -> u8
+pub fn byte_of(kind: LayerKind) -> u8
     ensures { result ≡ kind_byte kind }
 {
     match kind {
@@ -41,7 +41,7 @@ fn byte_of(kind: LayerKind) -> u8
 
 /// Puts a name behind other bytes.
 #[tactic(auto, unfolding(cue_codec::specs::Parts::text_bytes))]
-fn put_name(out: &mut Vec<u8>, name: &[u8]) -> Result<(), Memory>
+pub fn put_name(out: &mut Vec<u8>, name: &[u8]) -> Result<(), Memory>
     requires { IsShort name.now }
     ensures { OnOk result (out.new.items ≡ out.old.items ++ text_bytes name.now) }
 {
@@ -85,7 +85,7 @@ fn put_each(alloc: Global, out: &mut Vec<u8>, layers: &[Layer]) -> Result<(), Me
 }
 
 /// Puts the mark, the version and the count behind other bytes.
-fn put_head(out: &mut Vec<u8>, count: u64) -> Result<(), Memory>
+pub fn put_head(out: &mut Vec<u8>, count: u64) -> Result<(), Memory>
     ensures { OnOk result (out.new.items ≡ out.old.items
         ++ (layers_mark ++ (version ∷ to_be_bytes w64 count))) }
 {

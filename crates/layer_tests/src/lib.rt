@@ -9,6 +9,8 @@ mod limits;
 #[cfg(test)]
 mod maps;
 #[cfg(test)]
+mod pieces;
+#[cfg(test)]
 mod starved;
 #[cfg(test)]
 mod views;
