@@ -1,6 +1,9 @@
 pub mod Adding
 pub mod Covers
+pub mod Ending
+pub mod Fed
 pub mod Growing
+pub mod Heads
 pub mod Joined
 pub mod Keys
 pub mod LeavingOut
@@ -16,7 +19,10 @@ pub mod Places
 pub mod ReadBytes
 pub mod ReadMaps
 pub mod Replacing
+pub mod Stages
 pub mod States
+pub mod Steps
+pub mod Taking
 pub mod TooLarge
 pub mod Viewing
 pub mod Walks

@@ -89,6 +89,18 @@ longer (x ∷ xs) (y ∷ ys) l rest after s hx hy hl lt e is =
     let more = longer xs ys l rest after s hx.1 hy.1 hl (omega arith) same.1 is in
     (more.0, sym (λ i. same.0 i ∷ sym more.1 i))
 
+-- a layer of a map comes behind those in front of it
+pub behind_in_map : (xs more : List Layer) (l : Layer) → IsMap (xs ++ l ∷ more) → IsBehind xs l
+behind_in_map [] more l map = inl (refl, map.commons.name)
+behind_in_map (x ∷ xs) more l map =
+    let p = snoc_parts x xs in
+    let some : HasElement (x ∷ xs) p.1 = let P : List Layer → Type 0 = λ ls. HasElement ls p.1 in subst P (sym p.2) (last_in p.0 p.1) in
+    inr (p.0, p.1, p.2, order_across (x ∷ xs) (l ∷ more) p.1 l map.in_order some (inl refl))
+  where
+    last_in : (f : List Layer) (z : Layer) → HasElement (f ++ z ∷ []) z
+    last_in [] z = inl refl
+    last_in (y ∷ f) z = inr (last_in f z)
+
 -- no map has a layer that is not behind the others
 pub not_behind :
     (count : ℕ) (xs : List Layer) (l : Layer) (bytes rest after : List ℕ) → AreFront xs → IsHeld l → length xs < count → bytes ≡ flat_map layer_bytes xs ++ rest → rest ≡ layer_bytes l ++ after
@@ -96,18 +108,7 @@ pub not_behind :
 not_behind count xs l bytes rest after front held lt parts is bad = λ ys s h e.
     let n : length ys ≡ count = h.0 in
     let more = longer xs ys l rest after s front.each h.1 held (omega arith) (sym parts ∙ e) is in
-    bad (behind xs more.0 (subst IsMap more.1 h.2))
-  where
-    behind : (xs : List Layer) (more : List Layer) → IsMap (xs ++ l ∷ more) → IsBehind xs l
-    behind [] more map = inl (refl, map.commons.name)
-    behind (x ∷ xs) more map =
-        let p = snoc_parts x xs in
-        let some : HasElement (x ∷ xs) p.1 = let P : List Layer → Type 0 = λ ls. HasElement ls p.1 in subst P (sym p.2) (last_in p.0 p.1) in
-        inr (p.0, p.1, p.2, order_across (x ∷ xs) (l ∷ more) p.1 l map.in_order some (inl refl))
-      where
-        last_in : (f : List Layer) (z : Layer) → HasElement (f ++ z ∷ []) z
-        last_in [] z = inl refl
-        last_in (y ∷ f) z = inr (last_in f z)
+    bad (behind_in_map xs more.0 l (subst IsMap more.1 h.2))
 
 pub none_of_map : (count : ℕ) (bytes : List ℕ) → ReadsNoItem (AreSo IsHeld count) (flat_map layer_bytes) bytes → ReadsNoItem (AreSoManyOfMap count) (flat_map layer_bytes) bytes
 none_of_map count bytes none = λ ys s h e. none ys s (h.0, h.1) e

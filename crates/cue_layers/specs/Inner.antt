@@ -6,5 +6,6 @@ pub mod Naming
 pub mod Places
 pub mod Putting
 pub mod Reading
+pub mod Stages
 pub mod Viewing
 pub mod Walks

@@ -6,6 +6,7 @@ pub mod Layers
 pub mod Least
 pub mod Maps
 pub mod Names
+pub mod Pieces
 pub mod Puts
 pub mod Refusals
 pub mod View

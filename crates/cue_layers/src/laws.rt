@@ -1,5 +1,6 @@
 //! Laws of maps of layers, each on a call that carries it and does nothing.
 ghost use Rattle.cue_layers.specs.Bytes.{AreOfTheirPuts, HaveOneMap};
+ghost use Rattle.cue_layers.specs.Pieces.{AreReadInPieces};
 ghost use Rattle.cue_layers.specs.Join.{AddsPuts, AreEqualOfOneSet, JoinsPuts, IsCommutative, IsAssociative, IsIdempotent};
 
 /// Maps of one set of puts are equal, in whatever order and however often the puts came.
@@ -29,4 +30,10 @@ pub fn puts_are_added()
 pub fn layers_bytes_are_exact()
     ensures one { HaveOneMap }
     ensures puts { AreOfTheirPuts }
+{}
+
+/// What a reader of layers bytes has taken in tells of all bytes that it was handed, however they were
+/// cut.
+pub fn layers_are_read_in_pieces()
+    ensures { AreReadInPieces }
 {}

@@ -49,16 +49,18 @@ impl Layers {
     }
 }
 
+/// A number of 2 bytes.
 #[tactic(auto, unfolding(cue_codec::specs::Reading::number_at))]
-fn u16_at(bytes: &[u8]) -> Option<(u16, &[u8])>
+pub fn u16_at(bytes: &[u8]) -> Option<(u16, &[u8])>
     ensures { option_map (λ x. (x.0, x.1.now)) result ≡ number_at w16 bytes.now }
 {
     let (number, rest) = bytes.split_first_chunk::<2>()?;
     Some((u16::from_be_bytes(*number), rest))
 }
 
+/// A number of 8 bytes, and those behind them.
 #[tactic(auto, unfolding(cue_codec::specs::Reading::number_at))]
-fn u64_at(bytes: &[u8]) -> Option<(u64, &[u8])>
+pub fn u64_at(bytes: &[u8]) -> Option<(u64, &[u8])>
     ensures { option_map (λ x. (x.0, x.1.now)) result ≡ number_at w64 bytes.now }
 {
     let (number, rest) = bytes.split_first_chunk::<8>()?;
@@ -144,11 +146,11 @@ fn says_at(bytes: &[u8]) -> Option<((u64, &[u8]), &[u8])>
 
 /// The parts of a layer.
 #[derive(Clone, Copy)]
-struct Parts<'a> {
-    kind: LayerKind,
-    name: &'a [u8],
-    revision: u64,
-    state: &'a [u8],
+pub struct Parts<'a> {
+    pub kind: LayerKind,
+    pub name: &'a [u8],
+    pub revision: u64,
+    pub state: &'a [u8],
 }
 
 /// The parts of a layer in front of bytes, and what is behind them.
@@ -217,7 +219,7 @@ fn may_have(kind: LayerKind, name: &[u8], revision: u64) -> bool
 }
 
 /// The name among the parts of a layer, where it may have their revision.
-fn name_of<'a>(parts: Parts<'a>) -> Option<&'a str>
+pub fn name_of<'a>(parts: Parts<'a>) -> Option<&'a str>
     ensures some { IfSome result (λ name. (name.now ≡ parts.entry.name.now)
         × MayHave parts.entry.kind parts.entry.name.now parts.entry.revision) }
     ensures none { IfNone result

@@ -11,7 +11,7 @@ use Rattle.cue_layers.specs.declared.layer.Layer.{Layer}
 use Rattle.cue_layers.specs.declared.refusal.LayersRefusal.{LayersRefusal}
 use Rattle.cue_layers.specs.declared.refusal.LayersRefusal.TheVariants.{NotLayers}
 use Rattle.cue_layers.specs.Bytes.{block_bytes}
-use Rattle.cue_layers.specs.Layers.{IsLayer, IsMap, IsInOrder, IsKeyBefore, BeginsWithCommons, kind_byte, key_of}
+use Rattle.cue_layers.specs.Layers.{IsLayer, IsMap, IsInOrder, IsKeyBefore, BeginsWithCommons, kind_byte, key, key_of}
 use Rattle.cue_layers.specs.Names.{IsLayerName}
 use Rattle.cue_layers.specs.Refusals.{out_of_memory}
 
@@ -72,12 +72,16 @@ pub record AreFront (layers : List Layer) : Type 0 where
   pub commons : (layers ≡ []) ⊎ BeginsWithCommons layers
   pub each : AllByRecursion IsHeld layers
 
--- the layer comes behind all others of a map, or is its first
-abbrev pub IsBehind : List Layer → Layer → Type 0
-IsBehind layers layer =
-    ((layers ≡ []) × (layer.name ≡ []))
+-- a layer of this key comes behind all others of a map, or is its first
+abbrev pub IsKeyBehind : List Layer → LayerKind → List ℕ → Type 0
+IsKeyBehind layers kind name =
+    ((layers ≡ []) × (name ≡ []))
     ⊎ ((front : List Layer) × (last : Layer) × (layers ≡ front ++ last ∷ [])
-    × IsKeyBefore (key_of last) (key_of layer))
+    × IsKeyBefore (key_of last) (key kind name))
+
+-- so does the layer
+abbrev pub IsBehind : List Layer → Layer → Type 0
+IsBehind layers layer = IsKeyBehind layers layer.kind layer.name
 
 -- so many layers, which are a map
 abbrev pub AreSoManyOfMap : ℕ → List Layer → Type 0
