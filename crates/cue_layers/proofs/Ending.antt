@@ -1,5 +1,5 @@
 -- Where a reader stands that was handed no layers bytes.
-use Rattle.std.proofs.Common.{◌≡◌, inl, inr, ℕ, ◌<◌, ◌^◌, List, [], ◌∷◌, ◌++◌, append-nil, append_assoc, length, take, refl, sym, ap, ◌∙◌, subst, arith, Vec, Global}
+use Rattle.std.proofs.Common.{◌≡◌, inr, ℕ, ◌<◌, ◌^◌, List, [], ◌++◌, append-nil, append_assoc, length, take, refl, sym, ◌∙◌, subst, arith, Vec, Global}
 use Rattle.std.proofs.lemmas.List.{length-take}
 use Rattle.cue_codec.specs.Pieces as states
 use Rattle.cue_layers.specs.declared.layer.Layer.{Layer}

@@ -1,5 +1,5 @@
 -- What bytes tell that come in pieces: numbers, and what begins a layer.
-use Rattle.std.proofs.Common.{◌≡◌, inl, inr, ⊎_elim, ℕ, ◌+◌, ◌-◌, ◌<◌, ◌≤◌, ◌^◌, List, [], ◌∷◌, ◌++◌, Option, Some, None, append-nil, append_assoc, length, take, drop, refl, sym, ap, ◌∙◌, subst, arith}
+use Rattle.std.proofs.Common.{◌≡◌, ⊎_elim, ℕ, ◌+◌, ◌-◌, ◌<◌, ◌^◌, List, [], ◌∷◌, ◌++◌, Some, None, append-nil, append_assoc, length, take, drop, refl, sym, ap, ◌∙◌, subst, arith}
 use Rattle.std.specs.Prelude.{slice_get}
 use Rattle.std.specs.Int.{w16, w64, from_be_bytes, to_be_bytes}
 use Rattle.std.proofs.lemmas.List.{length-append, length-drop, length-take-le, take-append-drop, take_all}
@@ -18,7 +18,7 @@ use Rattle.cue_layers.specs.Bytes.{layers_bytes}
 use Rattle.cue_layers.specs.Layers.{IsMap, kind_byte}
 use Rattle.cue_layers.specs.Pieces.{IsLayersIntake}
 use Rattle.cue_layers.specs.Inner.Reading.{AreFront, MayHave}
-use Rattle.cue_layers.specs.Inner.Stages.{IsHead, CanBegin, IsPartRead, IsFed, IsStateRead, HasTaken, start_bytes, read_bytes, before_state, intake_behind}
+use Rattle.cue_layers.specs.Inner.Stages.{IsHead, CanBegin, IsPartRead, IsFed, HasTaken, start_bytes, read_bytes, before_state, intake_behind}
 use Rattle.cue_layers.specs.Inner.Walks.{head_bytes}
 use Rattle.cue_layers.proofs.ReadMaps.{map_by}
 use Rattle.cue_layers.proofs.Stages.{read_front}

@@ -1,17 +1,14 @@
 -- Layers bytes are those of one map, and a map is that of its layers as puts.
-use Rattle.std.proofs.Common.{◌≡◌, inl, inr, ⊎_elim, ℕ, ◌<◌, ◌≤◌, ◌^◌, List, [], ◌∷◌, ◌++◌, append-nil, drop, length, map, refl, sym, ap, ◌∙◌, subst, arith}
+use Rattle.std.proofs.Common.{◌≡◌, inl, inr, ⊎_elim, ℕ, ◌<◌, ◌^◌, List, [], ◌∷◌, ◌++◌, append-nil, drop, length, map, refl, sym, ap, ◌∙◌, subst, arith}
 use Rattle.std.specs.Int.{w64, to_be_bytes}
 use Rattle.std.specs.List.{AllByRecursion, flat_map}
 use Rattle.std.proofs.lemmas.List.{length-append}
 use Rattle.cue_codec.specs.Parts.{counted_bytes}
 use Rattle.cue_codec.proofs.Codes.{one_list, one_number, wide64}
-use Rattle.cue_lattice.specs.World.{state}
-use Rattle.cue_policies.specs.declared.kind.LayerKind.TheVariants as kinds
-use Rattle.cue_replica.specs.Language.{language}
 use Rattle.cue_replica.proofs.Sound.{sound}
 use Rattle.cue_layers.specs.declared.layer.Layer.{Layer}
 use Rattle.cue_layers.specs.Bytes.{layer_bytes, IsLayersBytes}
-use Rattle.cue_layers.specs.Layers.{key, key_of, IsCommons, IsMap}
+use Rattle.cue_layers.specs.Layers.{key, IsMap}
 use Rattle.cue_layers.specs.Maps.{IsMapOfPuts, commons_put, put_of}
 use Rattle.cue_layers.specs.Puts.{Put, HasElement, of_layers, of_puts}
 use Rattle.cue_layers.specs.Inner.Covers.{IsCovered, Covers}

@@ -1,19 +1,19 @@
 -- Layers bytes that come in pieces: what may go on so.
-use Rattle.std.proofs.Common.{◌≡◌, ◌≢◌, ◌⊎◌, inl, inr, ⊎_elim, ℕ, ◌+◌, ◌<◌, ◌≤◌, ◌^◌, List, [], ◌∷◌, ◌++◌, append-nil, append_assoc, length, take, drop, refl, sym, ap, ◌∙◌, subst, arith}
+use Rattle.std.proofs.Common.{◌≡◌, inl, inr, ⊎_elim, ℕ, ◌<◌, ◌≤◌, ◌^◌, List, [], ◌∷◌, ◌++◌, append-nil, append_assoc, length, take, drop, refl, sym, ap, ◌∙◌, subst, arith}
 use Rattle.std.specs.Int.{w16, w64, to_be_bytes}
 use Rattle.std.specs.List.{flat_map, AllByRecursion}
 use Rattle.std.proofs.lemmas.List.{length-append, take_at, take-append-le, take-append-drop}
 use Rattle.cue_codec.specs.Parts.{text_bytes, counted_bytes}
 use Rattle.cue_codec.specs.Reading.{IsShort}
-use Rattle.cue_codec.proofs.Codes.{same_fronts, list_step, one_list, one_number, wide16, wide64}
+use Rattle.cue_codec.proofs.Codes.{list_step, one_number, wide16, wide64}
 use Rattle.cue_policies.specs.declared.kind.LayerKind.{LayerKind}
 use Rattle.cue_replica.specs.Language.{language}
 use Rattle.cue_layers.specs.declared.layer.Layer.{Layer}
 use Rattle.cue_layers.specs.declared.refusal.LayersRefusal.TheVariants.{NotLayers}
-use Rattle.cue_layers.specs.Bytes.{layers_mark, version, layer_bytes, layers_bytes, IsLayersBytes, IsOtherLayersVersion, IsLayersFault}
+use Rattle.cue_layers.specs.Bytes.{layers_mark, version, layer_bytes, IsLayersBytes, IsOtherLayersVersion, IsLayersFault}
 use Rattle.cue_layers.specs.Layers.{IsMap, kind_byte}
 use Rattle.cue_layers.specs.Pieces.{IsNoLayersPrefix}
-use Rattle.cue_layers.specs.Inner.Reading.{both_bytes, kind_bytes, IsKind, IsWide, AreFront, AreSoManyOfMap, IsBehind, IsHeld, MayHave, parts_of}
+use Rattle.cue_layers.specs.Inner.Reading.{both_bytes, kind_bytes, AreFront, AreSoManyOfMap, IsBehind, IsHeld, MayHave}
 use Rattle.cue_layers.specs.Inner.Walks.{head_bytes}
 use Rattle.cue_layers.proofs.ReadBytes.{one_layer, one_key, one_wide, all_held, parts_are}
 use Rattle.cue_layers.proofs.ReadMaps.{behind_in_map}

@@ -1,8 +1,8 @@
 -- Layers bytes that come in pieces: the steps of a reader.
-use Rattle.std.proofs.Common.{◌≡◌, ◌≢◌, ◌⊎◌, inl, inr, ⊎_elim, ℕ, zero, suc, ◌+◌, ◌<◌, ◌≤◌, ◌^◌, List, [], ◌∷◌, ◌++◌, Some, append-nil, append_assoc, length, take, drop, refl, sym, ap, ◌∙◌, subst, arith}
+use Rattle.std.proofs.Common.{◌≡◌, ◌≢◌, ◌⊎◌, inr, ⊎_elim, ℕ, zero, suc, ◌+◌, ◌<◌, ◌≤◌, ◌^◌, List, [], ◌∷◌, ◌++◌, Some, append-nil, append_assoc, length, take, drop, refl, sym, ap, ◌∙◌, subst, arith}
 use Rattle.std.specs.Prelude.{slice_get}
 use Rattle.std.specs.Int.{w16, w64, to_be_bytes}
-use Rattle.std.specs.List.{flat_map, AllByRecursion}
+use Rattle.std.specs.List.{flat_map}
 use Rattle.std.proofs.lemmas.List.{length-append}
 use Rattle.cue_codec.specs.Decoding.{IsOtherStateVersion}
 use Rattle.cue_codec.specs.Entry.{entries_of}
@@ -24,14 +24,14 @@ use Rattle.cue_replica.proofs.Sound.{sound}
 use Rattle.cue_layers.specs.declared.layer.Layer.{Layer}
 use Rattle.cue_layers.specs.declared.refusal.LayersRefusal.TheVariants.{NotLayers}
 use Rattle.cue_layers.specs.Bytes.{layers_mark, version, layer_bytes, layers_bytes, IsOtherLayersVersion, IsLayersFault}
-use Rattle.cue_layers.specs.Layers.{IsMap, IsLayer, kind_byte}
-use Rattle.cue_layers.specs.Pieces.{LayersIntake, IsNoLayersPrefix, IsLayersIntake}
+use Rattle.cue_layers.specs.Layers.{IsMap, kind_byte}
+use Rattle.cue_layers.specs.Pieces.{IsNoLayersPrefix, IsLayersIntake}
 use Rattle.cue_layers.specs.Inner.Reading.{AreFront, IsHeld, IsKeyBehind, MayHave}
 use Rattle.cue_layers.specs.Inner.Stages.{front_bytes, front_byte, state_front, intake_behind, CanBegin}
 use Rattle.cue_layers.specs.Inner.Walks.{head_bytes}
 use Rattle.cue_layers.proofs.ReadBytes.{all_held, one_layer}
-use Rattle.cue_layers.proofs.ReadMaps.{empty_map, map_by}
-use Rattle.cue_layers.proofs.Stages.{read_front, known_front, map_begins, no_next, no_end, layer_again, same_head, same_start, may_have, longer_front}
+use Rattle.cue_layers.proofs.ReadMaps.{empty_map}
+use Rattle.cue_layers.proofs.Stages.{read_front, known_front, map_begins, no_next, no_end, same_head, same_start, may_have, longer_front}
 use Rattle.cue_layers.proofs.Walks.{layer_parts, layer_long}
 
 -- ---- how short bytes may be

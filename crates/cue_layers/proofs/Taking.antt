@@ -1,10 +1,9 @@
 -- What a reader of layers bytes has taken in, piece by piece.
-use Rattle.std.proofs.Common.{◌≡◌, ◌≢◌, ◌⊎◌, inl, inr, ⊎_elim, ℕ, ◌+◌, ◌<◌, ◌≤◌, ◌^◌, List, [], ◌∷◌, ◌++◌, append-nil, append_assoc, length, refl, sym, ap, ◌∙◌, subst, arith}
+use Rattle.std.proofs.Common.{◌≡◌, ◌≢◌, inl, inr, ℕ, ◌<◌, ◌^◌, List, [], ◌++◌, append-nil, append_assoc, length, refl, sym, ap, subst}
 use Rattle.cue_lattice.specs.declared.refusal.Kind.{Kind}
 use Rattle.cue_lattice.specs.declared.refusal.Kind.TheVariants as kinds
 use Rattle.cue_codec.specs.Pieces as states
 use Rattle.cue_replica.specs.Reading.{HasFaultAt as HasStateFaultAt}
-use Rattle.cue_layers.specs.declared.layer.Layer.{Layer}
 use Rattle.cue_layers.specs.declared.refusal.LayersRefusal.{LayersRefusal}
 use Rattle.cue_layers.specs.Bytes.{IsLayersBytes, IsOtherLayersVersion, IsLayersFault}
 use Rattle.cue_layers.specs.Pieces.{LayersIntake, so_far, other_version, no_layers, failed, IsNoLayersPrefix, IsLayersIntake, IsTakenIn, IsNotTakenIn, HasFaultAt, AreReadInPieces}

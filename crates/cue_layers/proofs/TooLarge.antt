@@ -1,9 +1,9 @@
 -- Which views are too large.
-use Rattle.std.proofs.Common.{◌≡◌, ◌↔◌, inl, inr, ⊎_elim, ◌<◌, ◌≤◌, ℕ, List, [], ◌∷◌, sym, subst, arith}
+use Rattle.std.proofs.Common.{◌≡◌, ◌↔◌, inl, inr, ⊎_elim, ◌≤◌, ℕ, List, [], ◌∷◌, arith}
 use Rattle.std.specs.List.{AllByRecursion}
 use Rattle.cue_lattice.specs.OneOf.{OneOf}
 use Rattle.cue_lattice.specs.Path.{Path}
-use Rattle.cue_lattice.specs.Question.{Question, SameAnswers}
+use Rattle.cue_lattice.specs.Question.{Question}
 use Rattle.cue_policies.specs.Laws.{IsUnifiedOf}
 use Rattle.cue_policies.specs.Rows.{row_count, HasMoreRows}
 use Rattle.cue_policies.specs.Tables.{ViewOfTwo}

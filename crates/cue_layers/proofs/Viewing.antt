@@ -1,15 +1,15 @@
 -- The view of a map.
-use Rattle.std.proofs.Common.{◌≡◌, ◌<◌, ◌⊎◌, ◌↔◌, ℕ, zero, suc, arith, get_or, length, List, [], ◌∷◌, map, inl, inr, ⊎_elim, subst, sym, ◌∙◌}
+use Rattle.std.proofs.Common.{◌≡◌, ◌<◌, ◌↔◌, ℕ, zero, suc, arith, get_or, length, List, [], ◌∷◌, map, inl, inr, ⊎_elim, subst, sym, ◌∙◌}
 use Rattle.std.specs.List.{AllByRecursion}
 use Rattle.cue_lattice.specs.OneOf.{OneOf}
 use Rattle.cue_lattice.specs.Path.{Path}
 use Rattle.cue_lattice.specs.Question.{Question, SameAnswers}
 use Rattle.cue_policies.specs.Laws.{IsUnifiedOf}
-use Rattle.cue_policies.specs.Tables.{ViewOfTwo, TablesRefuse}
+use Rattle.cue_policies.specs.Tables.{ViewOfTwo}
 use Rattle.cue_policies.specs.WellFormed.{IsWellFormed}
 use Rattle.cue_policies.specs.declared.kind.LayerKind.{LayerKind}
 use Rattle.cue_policies.specs.declared.kind.LayerKind.TheVariants as kinds
-use Rattle.cue_policies.proofs.Unions.{both_formed, empty_formed}
+use Rattle.cue_policies.proofs.Unions.{both_formed}
 use Rattle.cue_policies.proofs.ViewLaws.{two}
 use Rattle.cue_replica.specs.Language.{Table, language}
 use Rattle.cue_layers.specs.declared.layer.Layer.{Layer}

@@ -1,4 +1,4 @@
-use Rattle.std.proofs.Common.{◌≡◌, length, arith}
+use Rattle.std.proofs.Common.{arith}
 use Rattle.cue_layers.proofs.Heads.{after_whole}
 use Rattle.cue_layers.proofs.stage.after_layer.Goals as goal
 

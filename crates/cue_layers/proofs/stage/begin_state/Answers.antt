@@ -1,4 +1,4 @@
-use Rattle.std.proofs.Common.{◌≡◌, ℕ, List, ◌++◌, ◌-◌, length, refl, sym, ap, subst, arith}
+use Rattle.std.proofs.Common.{ℕ, List, ◌++◌, ◌-◌, length, sym, ap, subst}
 use Rattle.cue_codec.specs.Pieces as states
 use Rattle.cue_layers.specs.declared.stage.StateRead.{StateRead}
 use Rattle.cue_layers.specs.declared.stage.Stage.TheVariants as stages

@@ -1,4 +1,4 @@
-use Rattle.std.proofs.Common.{ℕ, List, ⊎_elim, refl, sym, subst, ◌∙◌}
+use Rattle.std.proofs.Common.{⊎_elim, refl, sym, subst}
 use Rattle.cue_codec.specs.Pieces as states
 use Rattle.cue_replica.specs.Reading.{HasTakenIn}
 use Rattle.cue_lattice.specs.Refusal.{refusal_at}

@@ -1,5 +1,4 @@
-use Rattle.std.proofs.Common.{◌≡◌, length, ap, arith}
-use Rattle.std.proofs.lemmas.List.{length-drop}
+use Rattle.std.proofs.Common.{◌≡◌, length, arith}
 use Rattle.cue_layers.proofs.Heads.{whole_count}
 use Rattle.cue_layers.proofs.stage.count_of.Goals as goal
 

@@ -1,8 +1,8 @@
-use Rattle.std.proofs.Common.{◌≡◌, ℕ, List, ◌++◌, sym, ap, subst, ◌∙◌}
+use Rattle.std.proofs.Common.{ℕ, List, ◌++◌, sym, ap, subst, ◌∙◌}
 use Rattle.std.specs.Result.{IfOk}
 use Rattle.cue_layers.specs.Pieces.{IsNoLayersPrefix}
 use Rattle.cue_layers.specs.declared.layer.Layer.{Layer}
-use Rattle.cue_layers.specs.Inner.Stages.{CanBegin, HasTaken, read_bytes, start_bytes}
+use Rattle.cue_layers.specs.Inner.Stages.{CanBegin, HasTaken, read_bytes}
 use Rattle.cue_layers.specs.Inner.Walks.{head_bytes}
 use Rattle.cue_layers.proofs.Heads.{head_whole}
 use Rattle.cue_layers.proofs.Steps.{cant_begin}

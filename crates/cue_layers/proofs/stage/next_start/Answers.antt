@@ -1,4 +1,4 @@
-use Rattle.std.proofs.Common.{ℕ, List, ◌++◌, sym, ap, subst, ◌∙◌}
+use Rattle.std.proofs.Common.{ℕ, List, ◌++◌, subst, ◌∙◌}
 use Rattle.cue_codec.specs.Reading.{ReadsNoItem}
 use Rattle.cue_layers.specs.Bytes.{layer_bytes}
 use Rattle.cue_layers.specs.Inner.Reading.{IsHeld}

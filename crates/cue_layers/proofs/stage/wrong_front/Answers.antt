@@ -1,4 +1,4 @@
-use Rattle.std.proofs.Common.{◌≡◌, ℕ, [], ◌∷◌, ◌++◌, take, sym, ap, subst, ◌∙◌}
+use Rattle.std.proofs.Common.{ℕ, [], ◌∷◌, ◌++◌, take, sym, ap, subst, ◌∙◌}
 use Rattle.cue_layers.specs.Bytes.{IsOtherLayersVersion}
 use Rattle.cue_layers.specs.Inner.Stages.{front_byte, front_bytes}
 use Rattle.cue_layers.proofs.Steps.{front_other}

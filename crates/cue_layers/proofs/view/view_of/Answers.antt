@@ -1,4 +1,4 @@
-use Rattle.std.proofs.Common.{sym, subst, ap, ◌≤◌, ◌∙◌}
+use Rattle.std.proofs.Common.{sym, subst, ◌≤◌}
 use Rattle.std.proofs.lemmas.Result.{err_from_is_err_and}
 use Rattle.cue_lattice.specs.Question.{SameAnswers}
 use Rattle.cue_policies.specs.Rows.{row_count, HasMoreRows}
@@ -6,7 +6,7 @@ use Rattle.cue_policies.specs.Tables.{ViewOfTwo}
 use Rattle.cue_policies.specs.WellFormed.{IsPlain}
 use Rattle.cue_policies.proofs.Sizes.{view_error}
 use Rattle.cue_replica.specs.Language.{Table, language}
-use Rattle.cue_layers.specs.View.{IsTooLarge, IsViewOf}
+use Rattle.cue_layers.specs.View.{IsViewOf}
 use Rattle.cue_layers.proofs.TooLarge.{not_too_large, too_large}
 use Rattle.cue_layers.proofs.Viewing.{whole}
 use Rattle.cue_layers.proofs.view.view_of.Goals as goal

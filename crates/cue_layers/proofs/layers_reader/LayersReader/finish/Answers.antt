@@ -1,4 +1,4 @@
-use Rattle.std.proofs.Common.{ℕ, List, sym, subst}
+use Rattle.std.proofs.Common.{sym, subst}
 use Rattle.cue_layers.specs.Pieces.{LayersIntake, HasTakenIn, HasFaultAt}
 use Rattle.cue_layers.proofs.Ending.{ended, fault_is}
 use Rattle.cue_layers.proofs.layers_reader.LayersReader.finish.Goals as goal
