@@ -2,3 +2,4 @@ pub mod Counting
 pub mod Steps
 pub mod Places
 pub mod Working
+pub mod Sending

@@ -16,7 +16,7 @@ use Rattle.cue_rounds.specs.Standing.{Step, at, Works, Restarts, Lives, Sends, I
 use Rattle.cue_rounds.proofs.Steps.{tagged, trail_join, trail_of}
 use Rattle.cue_rounds.proofs.Places.{each_itself, each_join, each_set}
 
-cleared_itself : (kept : List Call) (c : Connection) → (history c).calls ≡ kept → IsCleared kept c
+pub cleared_itself : (kept : List Call) (c : Connection) → (history c).calls ≡ kept → IsCleared kept c
 cleared_itself kept c calls = record { earlier = c; config = refl; calls = calls; received = ([], sym (append-nil _)); sent = refl }
 
 module _ {T : Type 0} (written : T → List ℕ) where

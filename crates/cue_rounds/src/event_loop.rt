@@ -1,4 +1,5 @@
 ghost use Rattle.std.specs.Prelude.{◌≡◌, length, IfOk, OnOk, OnErr, true, false};
+ghost use Rattle.cue_rounds.specs.Sending.{WritesWhatStands};
 ghost use Rattle.cue_rounds.specs.Standing.{AreEach, Changes, IsOpened, IsRound};
 
 use crate::asked::{Asked, add_pause, begin, step};
@@ -228,3 +229,11 @@ fn ask_all<R: Runtime, S: Gathers>(
         step(runtime, source, now, bounds, service);
     }
 }
+
+/// Over any number of rounds: all that was written to a client are answers of calls that stand, of its
+/// connections one after the other.
+///
+/// It computes nothing: it states a law.
+pub fn writes_what_stands<R: Runtime>()
+    ensures { WritesWhatStands R.Client.written }
+{}
