@@ -35,6 +35,16 @@ _cuestore_argument() {
   esac
 }
 
+# The options of cuestored are those that its own help names, so they are the installed program's.
+_cuestored() {
+  case ${COMP_WORDS[COMP_CWORD - 1]} in
+    --data | --check | --salvage | --into) mapfile -t COMPREPLY < <(compgen -d -- "${COMP_WORDS[COMP_CWORD]}") ;;
+    --*file) mapfile -t COMPREPLY < <(compgen -f -- "${COMP_WORDS[COMP_CWORD]}") ;;
+    --*) COMPREPLY=() ;;
+    *) _cuestore_offer "$("${COMP_WORDS[0]}" --help 2> /dev/null | grep -o -e '--[a-z-]*' | sort -u)" ;;
+  esac
+}
+
 _cuestore() {
   local name=${COMP_WORDS[0]##*/}
   case $name in
@@ -49,3 +59,4 @@ shopt -s extglob
 complete -o filenames -F _cuestore cuestore cuelayers cuestore-add cuestore-at cuestore-check cuestore-diff cuestore-explain cuestore-fmt \
   cuestore-lsp cuestore-site cuestore-to cuestore-why from-json
 complete -o filenames -o nospace -F _cuestore carry
+complete -o filenames -F _cuestored cuestored
