@@ -1,5 +1,5 @@
 ghost use Rattle.std.specs.Prelude.{◌≡◌, length, IfOk, OnOk, OnErr, true, false};
-ghost use Rattle.cue_rounds.specs.Sending.{WritesWhatStands};
+ghost use Rattle.cue_rounds.specs.Sending.{WritesWhatStands, RoundsWriteWhatStands};
 ghost use Rattle.cue_rounds.specs.Standing.{AreEach, Changes, IsOpened, IsRound};
 
 use crate::asked::{Asked, add_pause, begin, step};
@@ -236,4 +236,13 @@ fn ask_all<R: Runtime, S: Gathers>(
 /// It computes nothing: it states a law.
 pub fn writes_what_stands<R: Runtime>()
     ensures { WritesWhatStands R.Client.written }
+{}
+
+/// Over any list of rounds, from a start without a connection: behind rounds that all stand, what was
+/// written to each client are answers of calls that stand. In a round that does not stand nothing is
+/// written.
+///
+/// It computes nothing: it states a law.
+pub fn rounds_write_what_stands<R: Runtime, S: Settle + Gathers>()
+    ensures { RoundsWriteWhatStands R.Client.written S.Settle.answers (Changes S.Gathers.pulls_state S.Gathers.pulls_pieces S.Gathers.rests) S.Settle.settles }
 {}

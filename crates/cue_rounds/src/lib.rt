@@ -11,6 +11,6 @@ mod rounds;
 mod runtime;
 mod wait;
 
-pub use event_loop::{Bounds, Loop, PullSource, writes_what_stands};
+pub use event_loop::{Bounds, Loop, PullSource, rounds_write_what_stands, writes_what_stands};
 pub use rounds::{Gathers, InRound, News};
 pub use runtime::{Accepted, ClientStream, Runtime, SourceStream, StreamFault};
