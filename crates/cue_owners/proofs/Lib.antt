@@ -1,0 +1,5 @@
+pub mod Bearers
+pub mod Fitting
+pub mod Rows
+pub mod Named
+pub mod Whole
