@@ -85,11 +85,11 @@ module _ {R Q : Type 0} (refuses : R → Q → Type 0) where
         λ h. found_refuses refuses (Some tree) (find at (child step tree none)) (sym found) path question h.1,
       )
 
-  none_at_root : (given : List (Child R)) (question : Q) → ¬ OneOf (λ table. TableRefuses refuses table [] question) (map tree_of_branch given)
+  pub none_at_root : (given : List (Child R)) (question : Q) → ¬ OneOf (λ table. TableRefuses refuses table [] question) (map tree_of_branch given)
   none_at_root [] question h = h
   none_at_root (c ∷ given) question h = ⊎_elim (λ r. r) (none_at_root given question) h
 
-  one_below :
+  pub one_below :
       (given : List (Child R)) (at : Step) (path : Path) (question : Q)
       → OneOf (λ table. TableRefuses refuses table (at ∷ path) question) (map tree_of_branch given)
       ↔ OneOf (λ one. (step_of one.0 ≡ at) × TableRefuses refuses one.1 path question) (map given_of given)
@@ -111,7 +111,7 @@ module _ {R Q : Type 0} (refuses : R → Q → Type 0) where
   }
 
   -- a table without rows refuses nothing
-  rowless : (tree : Tree R) (path : Path) (question : Q) → is_some (if_not_empty tree) ≡ false → ¬ TableRefuses refuses tree path question
+  pub rowless : (tree : Tree R) (path : Path) (question : Q) → is_some (if_not_empty tree) ≡ false → ¬ TableRefuses refuses tree path question
   rowless (node (Some row) children rest) path question e = absurd (cc)
   rowless (node None (child next tree children) rest) path question e = absurd (cc)
   rowless (node None none (onward n tree)) path question e = absurd (cc)

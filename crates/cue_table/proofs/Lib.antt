@@ -19,6 +19,7 @@ mod Sides
 mod Sweeping
 pub mod ByHalves
 pub mod Alike
+pub mod AtOneStep
 pub mod Branches
 pub mod Beyond
 pub mod Closing

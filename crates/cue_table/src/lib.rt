@@ -18,6 +18,7 @@ mod measure;
 mod meet;
 mod near;
 mod node;
+mod one_step;
 mod open;
 mod place;
 mod rest;

@@ -15,6 +15,7 @@ use crate::Table;
 use crate::chain::last_against;
 use crate::child::Child;
 use crate::node::Node;
+use crate::one_step::{common_step, of_one_step};
 use cue_lattice::{Memory, Narrow};
 use cue_row::Step;
 use std::alloc::Global;
@@ -97,8 +98,24 @@ fn of_rising<R: Narrow>(alloc: Global, children: Vec<Child<R>>) -> Table<R>
     Table::of_root(alloc, root)
 }
 
-/// The table of branches in any order, which are put in that of their steps.
+/// The table of branches in any order.
 fn of_any<R: Narrow>(alloc: Global, children: Vec<Child<R>>) -> Result<Table<R>, Memory>
+    requires { All (IsBranch R.refuses R.is_value) children.items }
+    ensures form { IfOk result (IsTable R.refuses R.is_value) }
+    ensures refused { IfOk result (IsOfBranches R.refuses (map given_of children.items)) }
+{
+    if let Some(step) = common_step(&children) {
+        let own = step.copy(alloc)?;
+        return of_one_step(alloc, own, children);
+    }
+    of_steps(alloc, children)
+}
+
+/// The table of branches in any order, which are put in that of their steps.
+pub(crate) fn of_steps<R: Narrow>(
+    alloc: Global,
+    children: Vec<Child<R>>,
+) -> Result<Table<R>, Memory>
     requires { All (IsBranch R.refuses R.is_value) children.items }
     ensures form { IfOk result (IsTable R.refuses R.is_value) }
     ensures refused { IfOk result (IsOfBranches R.refuses (map given_of children.items)) }
@@ -222,7 +239,7 @@ fn met_together<R: Narrow>(alloc: Global, children: Vec<Child<R>>) -> Result<Tab
 }
 
 /// The table of one branch.
-fn of_branch<R: Narrow>(alloc: Global, child: Child<R>) -> Result<Table<R>, Memory>
+pub(crate) fn of_branch<R: Narrow>(alloc: Global, child: Child<R>) -> Result<Table<R>, Memory>
     requires { IsBranch R.refuses R.is_value child }
     ensures { IfOk result (λ table. table ≡ tree_of_branch child) }
 {

@@ -34,7 +34,8 @@ impl<R: Narrow> Node<R> {
     }
 }
 
-fn same_row<R: Narrow>(left: &Option<R>, right: &Option<R>) -> bool
+/// Whether both rows are the same, or none stands on either side.
+pub(crate) fn same_row<R: Narrow>(left: &Option<R>, right: &Option<R>) -> bool
     ensures { IsTrue result ↔ (left.now ≡ right.now) }
 {
     match (left, right) {

@@ -1,11 +1,13 @@
 -- Branches that are given for a table.
-use Rattle.std.specs.Prelude.{◌<◌, Bool, is_some, None}
+use Rattle.std.specs.Prelude.{◌≡◌, ◌<◌, Bool, is_some, Option, None, []}
 use Rattle.cue_lattice.specs.Limits.{step_limit}
+use Rattle.cue_lattice.specs.Path.{Path}
 use Rattle.cue_row.specs.Steps.{step_of}
 use Rattle.cue_row.specs.declared.step.Step.{Step}
 use Rattle.cue_table.specs.Depth.{tree_depth}
 use Rattle.cue_table.specs.Form.{IsTable, IsTreeTaken}
 use Rattle.cue_table.specs.Inner.Child.{Child}
+use Rattle.cue_table.specs.Refuses.{RowRefuses}
 use Rattle.cue_table.specs.Tree.{Tree, node, none, child, no_rest, if_not_empty}
 
 -- a branch as it is given
@@ -24,3 +26,7 @@ IsBranch refuses is_value c =
 -- the tree that has one branch alone
 abbrev pub tree_of_branch : {R : Type 0} → Child R → Tree R
 tree_of_branch c = node None (child (step_of c.step) c.node none) no_rest
+
+-- the row refuses the question at the root
+abbrev pub RefusesAtRoot : {R Q : Type 0} → (R → Q → Type 0) → Option R → Path → Q → Type 0
+RefusesAtRoot refuses row path question = (path ≡ []) × RowRefuses refuses row question
