@@ -2,6 +2,7 @@ pub mod Adding
 pub mod Covers
 pub mod Ending
 pub mod Fed
+pub mod FewLayers
 pub mod Growing
 pub mod Heads
 pub mod Joined

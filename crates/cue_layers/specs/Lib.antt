@@ -1,5 +1,6 @@
 pub mod Bytes
 pub mod Code
+pub mod Extracts
 pub mod Inner
 pub mod Join
 pub mod Layers

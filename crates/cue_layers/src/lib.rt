@@ -4,6 +4,7 @@
 //! sites join their maps: late, repeatedly, in any order.
 #![tactic(auto)]
 
+mod extracting;
 mod finding;
 mod joining;
 mod laws;

@@ -122,3 +122,14 @@ pub fn take(entries: &mut Vec<Layer>, bytes: &[u8]) -> Result<(), Refusal>
 {
     entries[0].content.take(bytes)
 }
+
+/// Unifies a site into the commons.
+pub fn unify(entries: &mut Vec<Layer>, site: Replica) -> Result<(), Memory>
+    requires { IsMap entries.old.items }
+    ensures ok { OnOk result
+        (CommonsGrows entries.old.items (language.table_refuses site) entries.new.items) }
+    ensures err { OnErr result (entries.new.items ≡ entries.old.items) }
+    ensures is_map { IsMap entries.new.items }
+{
+    entries[0].content.unify(site)
+}
