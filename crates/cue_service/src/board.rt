@@ -48,7 +48,8 @@ impl Model for CachedTable {
 impl CachedTable {
     ghost use Rattle.cue_service.specs.Kept.{IsKeptAnswer};
 
-    pub(crate) fn new(alloc: Global, table: Replica) -> CachedTable
+    /// A board of this table, of which nothing was told yet.
+    pub fn new(alloc: Global, table: Replica) -> CachedTable
         ensures { result ≡ table }
     {
         CachedTable {
@@ -59,7 +60,8 @@ impl CachedTable {
         }
     }
 
-    pub(crate) fn table(&self) -> &Replica
+    /// The table.
+    pub fn table(&self) -> &Replica
         ensures { result.now ≡ self.now }
     {
         &self.table
@@ -85,7 +87,7 @@ impl CachedTable {
     }
 
     /// The tag of the table.
-    pub(crate) fn tag(&mut self) -> Result<HeaderValue, Memory>
+    pub fn tag(&mut self) -> Result<HeaderValue, Memory>
         ensures tag { IfOk result (λ tag. tag.bytes ≡ tag_of self.old) }
         ensures same { self.new ≡ self.old }
     {

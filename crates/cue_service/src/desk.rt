@@ -361,7 +361,7 @@ impl SiteCore {
 }
 
 /// Answers a question, unless the one who asks has the table.
-fn answer_question(
+pub fn answer_question(
     board: &mut CachedTable,
     question: SiteQuestion,
     request: &Request<Bytes>,

@@ -4,6 +4,7 @@
 
 mod access;
 mod board;
+mod commons;
 mod desk;
 mod editions;
 mod entries;
@@ -26,11 +27,16 @@ mod start;
 mod tag;
 
 pub use access::AccessToken;
-pub use desk::SiteCore;
+pub use board::CachedTable;
+pub use commons::ServesCommons;
+pub use desk::{SiteCore, answer_question};
 pub use entries::{add_entries, snapshot_in};
 pub use laws::{a_round_keeps_its_promise, calls_are_events};
+pub use responses::{answer_body, answer_field, answer_status, answer_tagged, answer_unchanged};
 pub use route::{PieceKind, Route};
 pub use shown::{Shown, is_hidden};
 pub use site::Site;
+pub use snapshots::Snapshots;
 pub use standing::{SourceStanding, Standing};
 pub use start::{StartError, start_site};
+pub use tag::tag_text;

@@ -9,7 +9,7 @@ use http::{HeaderName, HeaderValue, StatusCode, header};
 use http_server::Response;
 
 /// Answers with a status alone.
-pub(crate) fn answer_status(response: &mut Response, status: StatusCode)
+pub fn answer_status(response: &mut Response, status: StatusCode)
     requires { IsBlank response.old }
     ensures { IsResponse status [] [] response.new }
 {
@@ -17,7 +17,7 @@ pub(crate) fn answer_status(response: &mut Response, status: StatusCode)
 }
 
 /// Answers with a status and a field.
-pub(crate) fn answer_field(
+pub fn answer_field(
     response: &mut Response,
     status: StatusCode,
     name: HeaderName,
@@ -32,7 +32,7 @@ pub(crate) fn answer_field(
 }
 
 /// Answers with a body of some type.
-pub(crate) fn answer_body(
+pub fn answer_body(
     response: &mut Response,
     status: StatusCode,
     kind: &'static str,
@@ -48,7 +48,7 @@ pub(crate) fn answer_body(
 }
 
 /// Answers that one who asks has the table with this tag.
-pub(crate) fn answer_unchanged(response: &mut Response, tag: HeaderValue) -> Result<(), Memory>
+pub fn answer_unchanged(response: &mut Response, tag: HeaderValue) -> Result<(), Memory>
     requires { IsBlank response.old }
     ensures { OnOk result (IsResponse 304 ((codes "etag", tag.bytes) ∷ []) [] response.new) }
 {
@@ -57,7 +57,7 @@ pub(crate) fn answer_unchanged(response: &mut Response, tag: HeaderValue) -> Res
 }
 
 /// Answers with the tag of a table, and a body of some type.
-pub(crate) fn answer_tagged(
+pub fn answer_tagged(
     response: &mut Response,
     status: StatusCode,
     tag: HeaderValue,

@@ -40,7 +40,7 @@ const STATE: u8 = 1;
 /// A site whose pieces are in two journals. What it answers stands once its round has settled.
 #[derive(Drop)]
 pub struct Site<D: Disk> {
-    desk: SiteCore,
+    pub(crate) desk: SiteCore,
     files: JournalPair<D>,
     snapshots: Snapshots,
     /// Why a round did not settle, or a pull found no room.

@@ -15,7 +15,7 @@ pub(crate) struct Refused {
 
 /// When a snapshot takes the place of the journal that grows.
 #[derive(Clone, Copy)]
-pub(crate) struct Snapshots {
+pub struct Snapshots {
     /// How many bytes the last one has, with which the journal begins.
     pub(crate) size: usize,
     pub(crate) refused: Option<Refused>,
@@ -23,7 +23,7 @@ pub(crate) struct Snapshots {
 
 impl Snapshots {
     /// A journal that begins with a snapshot of so many bytes.
-    pub(crate) fn new(size: usize) -> Snapshots {
+    pub fn new(size: usize) -> Snapshots {
         Snapshots {
             size,
             refused: None,
@@ -33,7 +33,7 @@ impl Snapshots {
     /// Whether one is due: the journal, of so many bytes, has grown by as much as the last snapshot
     /// has, and by a least length; and where one was refused, twice as long as it was then, and the
     /// table is another one.
-    pub(crate) fn is_due(&self, grown: usize, changes: u64) -> bool
+    pub fn is_due(&self, grown: usize, changes: u64) -> bool
         ensures { IsTrue result ↔ IsDue self.now grown changes }
     {
         grown.saturating_sub(self.size) >= LEAST_JOURNAL.max(self.size)
@@ -52,7 +52,7 @@ impl Snapshots {
     }
 
     /// One of so many bytes was written.
-    pub(crate) fn note_written(&mut self, size: usize)
+    pub fn note_written(&mut self, size: usize)
         ensures { self.new ≡ record { size = size; refused = None } }
     {
         self.size = size;
@@ -60,7 +60,7 @@ impl Snapshots {
     }
 
     /// One could not be written, with a journal of so many bytes.
-    pub(crate) fn refuse(&mut self, grown: usize, changes: u64)
+    pub fn refuse(&mut self, grown: usize, changes: u64)
         ensures { self.new ≡ record self.old { refused = Some (record { grown = grown; changes = changes }) } }
     {
         self.refused = Some(Refused { grown, changes });

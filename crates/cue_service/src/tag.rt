@@ -9,7 +9,7 @@ use std::alloc::Global;
 
 /// The tag of state bytes: their digest, in hexadecimal digits and quotes.
 #[tactic(auto, unfolding(crate::specs::Tags::quoted_digest))]
-pub(crate) fn tag_text(alloc: Global, state: &[u8]) -> Result<HeaderValue, Memory>
+pub fn tag_text(alloc: Global, state: &[u8]) -> Result<HeaderValue, Memory>
     ensures { IfOk result (λ tag. tag.bytes ≡ quoted_digest state.now) }
 {
     let digits = hex::encode(alloc, Sha256::digest(state))?;
