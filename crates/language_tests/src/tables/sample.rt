@@ -161,6 +161,7 @@ pub const BRANCHES: &[&str] = &[
     "c:=one b:=two a:=small",
     "b:=struct+a=one a:b=free b:=optional+a=two 0:=list+0=one",
     "a:=usual a:=one a:=two a:=small a:b=free",
+    "a:=struct+b=one+a=two a:=struct+a=one a:=optional+c=one a:=struct+c=two+b=two a:c=one",
     "1:a=one b:ab=two 0:=pair 1:ab=one b:a=struct a:0=small 1:=closed b:ab=usual",
     "z:fg=one z:fgh=two y:b=free x:=nothing z:fg=two x:=narrow w:=list z:f=required",
 ];
