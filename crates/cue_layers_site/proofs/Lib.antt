@@ -1,0 +1,9 @@
+pub mod Changing
+pub mod Condensing
+pub mod Joins
+pub mod Kept
+pub mod Opening
+pub mod Outcomes
+pub mod Rounds
+pub mod Routes
+pub mod Stands

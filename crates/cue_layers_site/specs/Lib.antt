@@ -1,0 +1,9 @@
+pub mod Answering
+pub mod Entries
+pub mod Inner
+pub mod Promise
+pub mod Requests
+pub mod Sites
+pub mod Starts
+pub mod Statuses
+pub mod Stores
