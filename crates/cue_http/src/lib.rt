@@ -6,6 +6,6 @@ mod ended;
 mod serving;
 mod sockets;
 
-pub use cue_rounds::{Bounds, Gathers, InRound, News, PullSource};
+pub use cue_rounds::{Bounds, Gathers, InRound, News, PullSource, SourceFailure};
 pub use ended::LoopError;
 pub use serving::serve;

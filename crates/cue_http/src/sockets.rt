@@ -8,7 +8,7 @@ use http_server::{Connection, Log};
 use mio::net::{TcpListener, TcpStream};
 use mio::{Interest, Poll, Token};
 use std::io::{ErrorKind, Read, Write};
-use std::net::{Net, SocketAddr};
+use std::net::{Net, SocketAddr, ToSocketAddrs};
 use std::random::RandomSource;
 
 /// The token of the listener. That of a client's connection is one more than the number of its place.
@@ -153,6 +153,14 @@ impl<'a, H: AllocGlobal + Net + RandomSource> Runtime for Sockets<'a, H> {
             .registry()
             .register(&mut client.stream, token, both);
         registered.is_ok()
+    }
+
+    /// It asks the system, which may ask others, and waits until it has answered.
+    fn look_up(&mut self, host: &str) -> Option<SocketAddr> {
+        match host.to_socket_addrs(self.rt) {
+            Ok(mut addresses) => addresses.next(),
+            Err(_) => None,
+        }
     }
 
     fn connect(&mut self, number: usize, at: SocketAddr) -> Result<SourceSocket, StreamFault> {

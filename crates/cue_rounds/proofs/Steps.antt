@@ -4,6 +4,9 @@ use Rattle.std.proofs.lemmas.Grind.{flat_map-append, common_steps}
 use Rattle.http.specs.declared.request.Request.{Request}
 use Rattle.http_server.specs.declared.response.Response.{Response}
 use Rattle.http_server.specs.Exchange.{Call, Chain}
+use Rattle.cue_rounds.specs.declared.question.Subject.{Subject}
+use Rattle.cue_rounds.specs.declared.question.Subject.TheVariants as subject
+use Rattle.cue_rounds.specs.Feeds.{PullsAs}
 use Rattle.cue_rounds.specs.Standing.{Step, at, Trail, ChangesThrough, Changes, ChangesOnce}
 
 abbrev pub tagged : ℕ → List Call → List Step
@@ -30,26 +33,35 @@ module _ {S : Type 0} (answers : S → Request (List ℕ) → Response → S →
   trail_of n [] a b x = x
   trail_of n (c ∷ calls) a b x = (x.0, x.1, trail_of n calls x.0 b x.2)
 
-module _ {S : Type 0} (pulls_state pulls_pieces : S → List ℕ → Bool → S → Type 0) (rests : S → S → Type 0) where
-  pub changes_itself : (a : S) → Changes pulls_state pulls_pieces rests a a
+module _ {S : Type 0} (pulls_state pulls_pieces pulls_layers : S → List ℕ → Bool → S → Type 0) (rests : S → S → Type 0) where
+  pub changes_itself : (a : S) → Changes pulls_state pulls_pieces pulls_layers rests a a
   changes_itself a = ([], refl)
 
-  pub changes_once : (a b : S) → ChangesOnce pulls_state pulls_pieces rests a b → Changes pulls_state pulls_pieces rests a b
+  pub changes_once : (a b : S) → ChangesOnce pulls_state pulls_pieces pulls_layers rests a b → Changes pulls_state pulls_pieces pulls_layers rests a b
   changes_once a b x = (b ∷ [], (x, refl))
 
-  pub changes_resting : (a b : S) → rests a b → Changes pulls_state pulls_pieces rests a b
+  pub changes_resting : (a b : S) → rests a b → Changes pulls_state pulls_pieces pulls_layers rests a b
   changes_resting a b x = changes_once a b (inl x)
 
-  pub changes_of_state : (bytes : List ℕ) (taken : Bool) (a b : S) → pulls_state a bytes taken b → Changes pulls_state pulls_pieces rests a b
+  pub changes_of_state : (bytes : List ℕ) (taken : Bool) (a b : S) → pulls_state a bytes taken b → Changes pulls_state pulls_pieces pulls_layers rests a b
   changes_of_state bytes taken a b x = changes_once a b (inr (bytes, taken, inl x))
 
-  pub changes_of_pieces : (bytes : List ℕ) (taken : Bool) (a b : S) → pulls_pieces a bytes taken b → Changes pulls_state pulls_pieces rests a b
-  changes_of_pieces bytes taken a b x = changes_once a b (inr (bytes, taken, inr x))
+  pub changes_of_pieces : (bytes : List ℕ) (taken : Bool) (a b : S) → pulls_pieces a bytes taken b → Changes pulls_state pulls_pieces pulls_layers rests a b
+  changes_of_pieces bytes taken a b x = changes_once a b (inr (bytes, taken, inr (inl x)))
 
-  through_join : (xs ys : List S) (a b c : S) → ChangesThrough pulls_state pulls_pieces rests xs a b → ChangesThrough pulls_state pulls_pieces rests ys b c
-      → ChangesThrough pulls_state pulls_pieces rests (xs ++ ys) a c
-  through_join [] ys a b c x y = subst (λ t. ChangesThrough pulls_state pulls_pieces rests ys t c) x y
+  pub changes_of_layers : (bytes : List ℕ) (taken : Bool) (a b : S) → pulls_layers a bytes taken b → Changes pulls_state pulls_pieces pulls_layers rests a b
+  changes_of_layers bytes taken a b x = changes_once a b (inr (bytes, taken, inr (inr x)))
+
+  pub changes_pulled : (asked : Subject) (bytes : List ℕ) (taken : Bool) (a b : S) → PullsAs pulls_state pulls_pieces pulls_layers asked a bytes taken b
+      → Changes pulls_state pulls_pieces pulls_layers rests a b
+  changes_pulled subject.State = changes_of_state
+  changes_pulled subject.Pieces = changes_of_pieces
+  changes_pulled subject.Layers = changes_of_layers
+
+  through_join : (xs ys : List S) (a b c : S) → ChangesThrough pulls_state pulls_pieces pulls_layers rests xs a b → ChangesThrough pulls_state pulls_pieces pulls_layers rests ys b c
+      → ChangesThrough pulls_state pulls_pieces pulls_layers rests (xs ++ ys) a c
+  through_join [] ys a b c x y = subst (λ t. ChangesThrough pulls_state pulls_pieces pulls_layers rests ys t c) x y
   through_join (k ∷ xs) ys a b c x y = (x.0, through_join xs ys k b c x.1 y)
 
-  pub changes_join : (a b c : S) → Changes pulls_state pulls_pieces rests a b → Changes pulls_state pulls_pieces rests b c → Changes pulls_state pulls_pieces rests a c
+  pub changes_join : (a b c : S) → Changes pulls_state pulls_pieces pulls_layers rests a b → Changes pulls_state pulls_pieces pulls_layers rests b c → Changes pulls_state pulls_pieces pulls_layers rests a c
   changes_join a b c x y = (x.0 ++ y.0, through_join x.0 y.0 a b c x.1 y.1)

@@ -1,3 +1,4 @@
 pub mod Waits
 pub mod Standing
+pub mod Feeds
 pub mod Sending

@@ -132,11 +132,12 @@ module _ {T : Type 0} where
   AreEach P olds news = (place : ℕ) → P (get_or olds place (Free None)) (get_or news place (Free None))
 
 -- What happens to a service but for calls.
-module _ {S : Type 0} (pulls_state pulls_pieces : S → List ℕ → Bool → S → Type 0) (rests : S → S → Type 0) where
+module _ {S : Type 0} (pulls_state pulls_pieces pulls_layers : S → List ℕ → Bool → S → Type 0) (rests : S → S → Type 0) where
   -- what another site sent is taken or not, or nothing changes that is answered
   abbrev pub ChangesOnce : S → S → Type 0
   ChangesOnce old new =
-      rests old new ⊎ ((bytes : List ℕ) × (taken : Bool) × (pulls_state old bytes taken new ⊎ pulls_pieces old bytes taken new))
+      rests old new ⊎ ((bytes : List ℕ) × (taken : Bool)
+      × (pulls_state old bytes taken new ⊎ (pulls_pieces old bytes taken new ⊎ pulls_layers old bytes taken new)))
 
   abbrev pub ChangesThrough : List S → S → S → Type 0
   ChangesThrough [] old new = new ≡ old

@@ -2,17 +2,17 @@ ghost use Rattle.std.specs.Prelude.{◌≡◌, length, IfOk, OnOk, OnErr, true, 
 ghost use Rattle.cue_rounds.specs.Sending.{WritesWhatStands, RoundsWriteWhatStands};
 ghost use Rattle.cue_rounds.specs.Standing.{AreEach, Changes, IsOpened, IsRound};
 
-use crate::asked::{Asked, add_pause, begin, step};
+use crate::asked::add_pause;
 use crate::peer::is_due;
 use crate::peers::{Peers, Taking, take};
 use crate::rounds::{Gathers, InRound, News};
 use crate::runtime::{Runtime, SourceStream};
+use crate::source::{PullSource, SourceFeeds, ask_commons, ask_layers};
 use http_server::{Config, Settle};
 use log::Log;
 use std::alloc::{AllocError, Global};
 use std::hash::RandomState;
 use std::io;
-use std::net::SocketAddr;
 use std::time::{Duration, Instant};
 
 /// A wait for the system lasts no longer, in milliseconds.
@@ -32,19 +32,13 @@ pub struct Bounds {
     pub every: Duration,
 }
 
-/// Another site, whose state is asked for now and then.
-#[derive(Clone, Copy, Debug, PartialEq, Eq)]
-pub struct PullSource {
-    pub at: SocketAddr,
-}
-
 /// The loop between two waits.
 #[derive(Drop)]
 pub struct Loop<R: Runtime, S> {
     pub runtime: R,
     alloc: Global,
     peers: Peers<R::Client>,
-    asked: Vec<Asked<R::Source>>,
+    asked: Vec<SourceFeeds<R::Source>>,
     service: InRound<S>,
     bounds: Bounds,
     /// What came of taking connections last.
@@ -74,7 +68,7 @@ impl<R: Runtime + Drop, S: Settle + Gathers + Drop> Loop<R, S> {
             runtime,
             alloc,
             peers: Peers::new(alloc, keys, bounds, start),
-            asked: ask_sources(alloc, sources, start, bounds.every)?,
+            asked: ask_sources(alloc, sources, start, &bounds)?,
             service: InRound::new(alloc, service),
             bounds,
             taking: Taking::More,
@@ -123,10 +117,10 @@ impl<R: Runtime + Drop, S: Settle + Gathers + Drop> Loop<R, S> {
     pub fn round(&mut self, now: Instant, seconds: u64) -> io::Result<()>
         // Behind a round that did not settle there is none.
         requires { self.old.stands ≡ true }
-        ensures ok { OnOk result (IsRound S.Settle.answers (Changes S.Gathers.pulls_state S.Gathers.pulls_pieces S.Gathers.rests)
+        ensures ok { OnOk result (IsRound S.Settle.answers (Changes S.Gathers.pulls_state S.Gathers.pulls_pieces S.Gathers.pulls_layers S.Gathers.rests)
             R.Client.written S.Settle.settles true
             self.old.service.inner self.new.service.inner self.old.peers.places.items self.new.peers.places.items) }
-        ensures err { OnErr result (IsRound S.Settle.answers (Changes S.Gathers.pulls_state S.Gathers.pulls_pieces S.Gathers.rests)
+        ensures err { OnErr result (IsRound S.Settle.answers (Changes S.Gathers.pulls_state S.Gathers.pulls_pieces S.Gathers.pulls_layers S.Gathers.rests)
             R.Client.written S.Settle.settles false
             self.old.service.inner self.new.service.inner self.old.peers.places.items self.new.peers.places.items) }
         ensures goes_on { OnOk result (self.new.stands ≡ true) }
@@ -169,7 +163,7 @@ impl<R: Runtime + Drop, S: Settle + Gathers + Drop> Loop<R, S> {
 
     /// Asks each source in turn, where it is time, and goes on with what was asked.
     fn ask(&mut self, now: Instant)
-        ensures changes { Changes S.Gathers.pulls_state S.Gathers.pulls_pieces S.Gathers.rests self.old.service.inner self.new.service.inner }
+        ensures changes { Changes S.Gathers.pulls_state S.Gathers.pulls_pieces S.Gathers.pulls_layers S.Gathers.rests self.old.service.inner self.new.service.inner }
         ensures peers { self.new.peers ≡ self.old.peers }
         ensures stands { self.new.stands ≡ self.old.stands }
     {
@@ -185,7 +179,7 @@ impl<R: Runtime + Drop, S: Settle + Gathers + Drop> Loop<R, S> {
 
     /// Has the service note how many connections there are.
     fn count(&mut self)
-        ensures changes { Changes S.Gathers.pulls_state S.Gathers.pulls_pieces S.Gathers.rests self.old.service.inner self.new.service.inner }
+        ensures changes { Changes S.Gathers.pulls_state S.Gathers.pulls_pieces S.Gathers.pulls_layers S.Gathers.rests self.old.service.inner self.new.service.inner }
         ensures peers { self.new.peers ≡ self.old.peers }
         ensures stands { self.new.stands ≡ self.old.stands }
     {
@@ -202,13 +196,13 @@ fn ask_sources<L: SourceStream + Drop>(
     alloc: Global,
     sources: &[PullSource],
     now: Instant,
-    every: Duration,
-) -> Result<Vec<Asked<L>>, AllocError>
+    bounds: &Bounds,
+) -> Result<Vec<SourceFeeds<L>>, AllocError>
     ensures { IfOk result (λ asked. length asked.items ≡ length sources.now) }
 {
     let mut asked = Vec::new(alloc);
     for (number, source) in sources.iter().enumerate() {
-        asked.push(Asked::new(alloc, number, source.at, now, every))?;
+        asked.push(SourceFeeds::new(alloc, number, source.clone()?, now, bounds))?;
     }
     Ok(asked)
 }
@@ -217,16 +211,17 @@ fn ask_sources<L: SourceStream + Drop>(
 fn ask_all<R: Runtime, S: Gathers>(
     runtime: &mut R,
     alloc: Global,
-    asked: &mut Vec<Asked<R::Source>>,
+    asked: &mut Vec<SourceFeeds<R::Source>>,
     now: Instant,
     bounds: &Bounds,
     service: &mut S,
 )
-    ensures { Changes S.pulls_state S.pulls_pieces S.rests service.old service.new }
+    ensures { Changes S.pulls_state S.pulls_pieces S.pulls_layers S.rests service.old service.new }
 {
+    let has_layers = service.has_layers();
     for source in asked {
-        begin(runtime, alloc, source, now, bounds, service);
-        step(runtime, source, now, bounds, service);
+        ask_commons(runtime, alloc, source, now, bounds, service);
+        ask_layers(runtime, alloc, source, has_layers, now, bounds, service);
     }
 }
 
@@ -244,5 +239,5 @@ pub fn writes_what_stands<R: Runtime>()
 ///
 /// It computes nothing: it states a law.
 pub fn rounds_write_what_stands<R: Runtime, S: Settle + Gathers>()
-    ensures { RoundsWriteWhatStands R.Client.written S.Settle.answers (Changes S.Gathers.pulls_state S.Gathers.pulls_pieces S.Gathers.rests) S.Settle.settles }
+    ensures { RoundsWriteWhatStands R.Client.written S.Settle.answers (Changes S.Gathers.pulls_state S.Gathers.pulls_pieces S.Gathers.pulls_layers S.Gathers.rests) S.Settle.settles }
 {}

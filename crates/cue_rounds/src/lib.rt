@@ -4,13 +4,17 @@
 
 mod asked;
 mod event_loop;
+mod failure;
 mod peer;
 mod peers;
 mod question;
 mod rounds;
 mod runtime;
+mod source;
 mod wait;
 
-pub use event_loop::{Bounds, Loop, PullSource, rounds_write_what_stands, writes_what_stands};
+pub use event_loop::{Bounds, Loop, rounds_write_what_stands, writes_what_stands};
+pub use failure::SourceFailure;
 pub use rounds::{Gathers, InRound, News};
 pub use runtime::{Accepted, ClientStream, Runtime, SourceStream, StreamFault};
+pub use source::PullSource;

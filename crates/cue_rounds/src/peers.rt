@@ -173,7 +173,7 @@ impl<T: ClientStream + Drop> Peers<T> {
 
     /// Reads from those that are ready, and has the service answer.
     pub(crate) fn receive<S: Settle + Gathers>(&mut self, service: &mut InRound<S>, now: Instant)
-        ensures { AreAtWork S.Settle.answers (Changes S.Gathers.pulls_state S.Gathers.pulls_pieces S.Gathers.rests)
+        ensures { AreAtWork S.Settle.answers (Changes S.Gathers.pulls_state S.Gathers.pulls_pieces S.Gathers.pulls_layers S.Gathers.rests)
             T.written service.old.inner service.new.inner self.old.places.items self.new.places.items }
     {
         self.waiting = receive_all(
@@ -192,7 +192,7 @@ impl<T: ClientStream + Drop> Peers<T> {
         service: &mut InRound<S>,
         now: Instant,
     )
-        ensures { AreAtWork S.Settle.answers (Changes S.Gathers.pulls_state S.Gathers.pulls_pieces S.Gathers.rests)
+        ensures { AreAtWork S.Settle.answers (Changes S.Gathers.pulls_state S.Gathers.pulls_pieces S.Gathers.pulls_layers S.Gathers.rests)
             T.written service.old.inner service.new.inner self.old.places.items self.new.places.items }
     {
         if self.waiting == 0 {
@@ -213,7 +213,7 @@ impl<T: ClientStream + Drop> Peers<T> {
         edition: u64,
         until: Instant,
     )
-        ensures { AreAtWork S.Settle.answers (Changes S.Gathers.pulls_state S.Gathers.pulls_pieces S.Gathers.rests)
+        ensures { AreAtWork S.Settle.answers (Changes S.Gathers.pulls_state S.Gathers.pulls_pieces S.Gathers.pulls_layers S.Gathers.rests)
             T.written service.old.inner service.new.inner self.old.places.items self.new.places.items }
     {
         for place in 0..self.places.len() {
@@ -394,7 +394,7 @@ impl<T: ClientStream + Drop> PeerSlot<T> {
         most: usize,
     ) -> usize
         ensures { (calls : List Call) × (called : S) × Chain S.Settle.answers service.old.inner calls called
-            × Changes S.Gathers.pulls_state S.Gathers.pulls_pieces S.Gathers.rests called service.new.inner
+            × Changes S.Gathers.pulls_state S.Gathers.pulls_pieces S.Gathers.pulls_layers S.Gathers.rests called service.new.inner
             × AtPlace (Lives T.written) calls self.old self.new }
     {
         match self {
@@ -556,7 +556,7 @@ fn receive_at<T: ClientStream + Drop, S: Settle + Gathers>(
     waiting: usize,
     most: usize,
 ) -> usize
-    ensures { AreAtWork S.Settle.answers (Changes S.Gathers.pulls_state S.Gathers.pulls_pieces S.Gathers.rests)
+    ensures { AreAtWork S.Settle.answers (Changes S.Gathers.pulls_state S.Gathers.pulls_pieces S.Gathers.pulls_layers S.Gathers.rests)
         T.written service.old.inner service.new.inner places.old.items places.new.items }
 {
     match places.get_mut(place) {
@@ -574,7 +574,7 @@ fn receive_all<T: ClientStream + Drop, S: Settle + Gathers>(
     waiting: usize,
     most: usize,
 ) -> usize
-    ensures { AreAtWork S.Settle.answers (Changes S.Gathers.pulls_state S.Gathers.pulls_pieces S.Gathers.rests)
+    ensures { AreAtWork S.Settle.answers (Changes S.Gathers.pulls_state S.Gathers.pulls_pieces S.Gathers.pulls_layers S.Gathers.rests)
         T.written service.old.inner service.new.inner places.old.items places.new.items }
 {
     let mut count = waiting;
@@ -594,7 +594,7 @@ fn receive<T: ClientStream + Drop, S: Settle + Gathers>(
     most: usize,
 ) -> usize
     ensures { (calls : List Call) × (called : S) × Chain S.Settle.answers service.old.inner calls called
-        × Changes S.Gathers.pulls_state S.Gathers.pulls_pieces S.Gathers.rests called service.new.inner
+        × Changes S.Gathers.pulls_state S.Gathers.pulls_pieces S.Gathers.pulls_layers S.Gathers.rests called service.new.inner
         × Works T.written calls peer.old peer.new }
 {
     let waited = peer.is_waiting();
@@ -611,7 +611,7 @@ fn work<T: ClientStream + Drop, S: Settle + Gathers>(
     may_wait: bool,
 )
     ensures { (calls : List Call) × (called : S) × Chain S.Settle.answers service.old.inner calls called
-        × Changes S.Gathers.pulls_state S.Gathers.pulls_pieces S.Gathers.rests called service.new.inner
+        × Changes S.Gathers.pulls_state S.Gathers.pulls_pieces S.Gathers.pulls_layers S.Gathers.rests called service.new.inner
         × Works T.written calls peer.old peer.new }
 {
     if !peer.is_ready() {
@@ -633,7 +633,7 @@ fn hold<T: ClientStream + Drop, S: Gathers>(
     wait: Option<Wait>,
     may_wait: bool,
 )
-    ensures changes { Changes S.pulls_state S.pulls_pieces S.rests service.old.inner service.new.inner }
+    ensures changes { Changes S.pulls_state S.pulls_pieces S.pulls_layers S.rests service.old.inner service.new.inner }
     ensures connection { peer.new.connection ≡ peer.old.connection }
     ensures stream { peer.new.stream ≡ peer.old.stream }
 {
@@ -662,7 +662,7 @@ fn ask_again_at<T: ClientStream + Drop, S: Settle + Gathers>(
     until: Instant,
 ) -> bool
     requires { history fresh ≡ new_history }
-    ensures { AreAtWork S.Settle.answers (Changes S.Gathers.pulls_state S.Gathers.pulls_pieces S.Gathers.rests)
+    ensures { AreAtWork S.Settle.answers (Changes S.Gathers.pulls_state S.Gathers.pulls_pieces S.Gathers.pulls_layers S.Gathers.rests)
         T.written service.old.inner service.new.inner places.old.items places.new.items }
 {
     match places.get_mut(place) {

@@ -1,12 +1,14 @@
-ghost use Rattle.std.specs.Prelude.{◌≡◌, ◌≤◌, ◌++◌, length, OnOk};
+ghost use Rattle.std.specs.Prelude.{◌≡◌, ◌≤◌, ◌++◌, length, IfOk, OnOk};
+ghost use Rattle.cue_rounds.specs.Feeds.{subject_of};
 
+use crate::failure::SourceFailure;
 use crate::peer::is_due;
 use crate::runtime::{SourceStream, StreamFault};
+use crate::source::PullSource;
 use cue_journal::PieceCursor;
-use http1::{BodySize, Client, Event, Header, Limits, WriteError};
+use http1::{BodySize, Client, Event, Header, Limits};
 use httparse::spans::{EMPTY_HEADER_SPAN, HeaderSpan};
 use std::alloc::{AllocError, Global};
-use std::net::SocketAddr;
 use std::str;
 use std::time::Instant;
 
@@ -24,9 +26,7 @@ const PIECE: usize = 16 * 1024;
 pub(crate) enum Course {
     Waiting,
     Answered,
-    /// What came is no answer, or longer than any.
-    Unfit,
-    Failed,
+    Failed(SourceFailure),
 }
 
 /// What a source is asked for.
@@ -36,66 +36,70 @@ pub(crate) enum Wanted<'a> {
     State(&'a [u8]),
     /// The pieces that it accepted behind this place.
     Pieces(PieceCursor),
+    /// The layers bytes of its map, unless it is the one with this tag.
+    Layers(&'a [u8]),
 }
 
-/// Why a source was not asked.
-#[derive(Clone, Copy, Debug)]
-pub(crate) enum AskError {
-    /// The request can't be written: the tag in it is none.
-    Refused,
-    OutOfMemory,
-    /// The system refused a connection.
-    Unreachable,
-}
-
-impl From<AllocError> for AskError {
-    fn from(_error: AllocError) -> AskError {
-        AskError::OutOfMemory
-    }
-}
-
-impl From<WriteError> for AskError {
-    fn from(error: WriteError) -> AskError {
-        match error {
-            WriteError::OutOfMemory => AskError::OutOfMemory,
-            _ => AskError::Refused,
+impl<'a> Wanted<'a> {
+    /// What kind of answer is asked for.
+    pub(crate) fn subject(self) -> Subject
+        ensures { result ≡ subject_of self.entry }
+    {
+        match self {
+            Wanted::State(_) => Subject::State,
+            Wanted::Pieces(_) => Subject::Pieces,
+            Wanted::Layers(_) => Subject::Layers,
         }
     }
 }
 
-/// What a source answered.
-pub(crate) enum SourceAnswer<'a> {
-    /// Its state.
-    State(&'a [u8]),
-    /// Its state is the one that was asked about.
-    Same,
-    /// The pieces that were asked for.
-    Pieces(&'a [u8]),
-    /// It doesn't have these pieces, or its answer for them can't be used.
-    Gone,
-    /// Nothing that can be used.
-    None,
-}
-
-/// Why what came of an answer is of no use.
+/// What kind of answer is asked for.
 #[derive(Clone, Copy, Debug, PartialEq, Eq)]
-enum AnswerFault {
-    /// It is no answer, or longer than any.
-    Unfit,
-    /// The connection failed, or memory did not suffice.
-    Lost,
+pub(crate) enum Subject {
+    State,
+    Pieces,
+    Layers,
 }
 
-impl From<AllocError> for AnswerFault {
-    fn from(_error: AllocError) -> AnswerFault {
-        AnswerFault::Lost
+/// What a source answered.
+#[derive(Clone, Copy, Debug, PartialEq, Eq)]
+pub(crate) enum SourceAnswer {
+    /// What was asked for, as the body.
+    Whole,
+    /// What was asked for is the one that was asked about.
+    Same,
+    /// It doesn't have the pieces that were asked for, or its answer for them can't be used.
+    Gone,
+    /// It has no layers.
+    Layerless,
+    /// It refuses a question that waits.
+    Impatient,
+    /// Nothing that can be used, and why.
+    Failed(SourceFailure),
+}
+
+impl SourceAnswer {
+    /// What a whole answer with this status says of what was asked for, by a question that waits or
+    /// not.
+    fn of_status(subject: Subject, waits: bool, status: u16) -> SourceAnswer
+        // Where it is of no use, the status is told.
+        ensures { (told : SourceFailure) → result ≡ SourceAnswer.Failed told → told ≡ SourceFailure.Status status }
+    {
+        match (subject, status) {
+            (_, 200) => SourceAnswer::Whole,
+            (_, 304) => SourceAnswer::Same,
+            (_, 400) if waits => SourceAnswer::Impatient,
+            (Subject::Layers, 404 | 405) => SourceAnswer::Layerless,
+            (Subject::Pieces, _) => SourceAnswer::Gone,
+            _ => SourceAnswer::Failed(SourceFailure::Status(status)),
+        }
     }
 }
 
 /// The body of an answer.
 #[derive(Drop)]
-struct Body {
-    bytes: Vec<u8>,
+pub(crate) struct Body {
+    pub(crate) bytes: Vec<u8>,
     // No answer of a source is longer than 64 MiB.
     ghost short: { length bytes.items ≤ 67_108_864 },
 }
@@ -108,11 +112,11 @@ impl Body {
     }
 
     /// Adds a piece, unless the body is too long with it.
-    fn add(&mut self, piece: &[u8]) -> Result<(), AnswerFault>
+    fn add(&mut self, piece: &[u8]) -> Result<(), SourceFailure>
         ensures { OnOk result (self.new.bytes.items ≡ self.old.bytes.items ++ piece.now) }
     {
         if piece.len() > MOST_BYTES.saturating_sub(self.bytes.len()) {
-            return Err(AnswerFault::Unfit);
+            return Err(SourceFailure::TooLong);
         }
         self.bytes.extend_from_slice(piece)?;
         Ok(())
@@ -123,14 +127,15 @@ impl Body {
 #[derive(Drop)]
 pub(crate) struct SourceQuestion<L> {
     stream: L,
-    /// It asks for pieces, and else for the state.
-    for_pieces: bool,
+    pub(crate) subject: Subject,
+    /// The source is to hold its answer back while it has no news.
+    waits: bool,
     client: Client,
     question: Vec<u8>,
     sent: usize,
     room: Vec<u8>,
     input: Vec<u8>,
-    body: Body,
+    pub(crate) body: Body,
     tag: Vec<u8>,
     cursor: Vec<u8>,
     code: u16,
@@ -138,63 +143,102 @@ pub(crate) struct SourceQuestion<L> {
     until: Instant,
 }
 
-/// The target of a question.
-fn target(alloc: Global, wanted: Wanted<'_>) -> Result<Vec<u8>, AllocError> {
+/// The target of a question, behind a prefix. A question for pieces or layers may wait for news.
+fn target(
+    alloc: Global,
+    prefix: &str,
+    wanted: Wanted<'_>,
+    wait: Option<u64>,
+) -> Result<Vec<u8>, AllocError> {
+    let mut target = Vec::from_slice(alloc, prefix.as_bytes())?;
     match wanted {
-        Wanted::State(_) => Vec::from_slice(alloc, b"/state"),
+        Wanted::State(_) => target.extend_from_slice(b"/state")?,
+        Wanted::Layers(_) => {
+            target.extend_from_slice(b"/sync")?;
+            push_wait(alloc, &mut target, b"?wait=", wait)?;
+        }
         Wanted::Pieces(cursor) => {
-            let mut target = Vec::from_slice(alloc, b"/pieces?after=")?;
+            target.extend_from_slice(b"/pieces?after=")?;
             target.extend_from_slice(cursor.text(alloc)?.as_bytes())?;
-            Ok(target)
+            push_wait(alloc, &mut target, b"&wait=", wait)?;
         }
     }
+    Ok(target)
 }
 
-/// The tag that a question names, as that of the state that is had.
+/// Writes so many seconds behind a mark, if any.
+fn push_wait(
+    alloc: Global,
+    target: &mut Vec<u8>,
+    mark: &[u8],
+    wait: Option<u64>,
+) -> Result<(), AllocError> {
+    if let Some(seconds) = wait {
+        target.extend_from_slice(mark)?;
+        target.extend_from_slice(format!(in alloc; "{seconds}")?.as_bytes())?;
+    }
+    Ok(())
+}
+
+/// The tag that a question names, as that of the answer that is had.
 fn known_tag(wanted: Wanted<'_>) -> Option<&[u8]> {
     match wanted {
-        Wanted::State(tag) if !tag.is_empty() => Some(tag),
+        Wanted::State(tag) | Wanted::Layers(tag) if !tag.is_empty() => Some(tag),
         _ => None,
     }
 }
 
-/// The request that asks so. It names the source by its address: a site answers for no other host.
+/// The request that asks a source so. It bears the token of the source, if there is one.
 fn ask(
     alloc: Global,
     client: &mut Client,
-    source: SocketAddr,
+    source: &PullSource,
     wanted: Wanted<'_>,
-) -> Result<Vec<u8>, AskError> {
+    wait: Option<u64>,
+) -> Result<Vec<u8>, SourceFailure> {
     let mut question = Vec::new(alloc);
-    let address = format!(in alloc; "{source}")?;
-    let host = Header {
-        name: b"host",
-        value: address.as_bytes(),
+    let target = target(alloc, &source.prefix, wanted, wait)?;
+    let credentials = match &source.token {
+        Some(token) => format!(in alloc; "Bearer {token}")?,
+        None => String::new(alloc),
     };
-    let target = target(alloc, wanted)?;
-    match known_tag(wanted) {
-        None => client.write_request(&mut question, b"GET", &target, &[host], BodySize::Empty)?,
-        Some(tag) => {
-            let none_match = Header {
-                name: b"if-none-match",
-                value: tag,
-            };
-            let fields = [host, none_match];
-            client.write_request(&mut question, b"GET", &target, &fields, BodySize::Empty)?;
-        }
-    }
+    let fields = fields(alloc, source, &credentials, known_tag(wanted))?;
+    client.write_request(&mut question, b"GET", &target, &fields, BodySize::Empty)?;
     client.write_end(&mut question, &[])?;
     Ok(question)
+}
+
+/// The fields of a question: the host, and the credentials and the tag of what is had, if any.
+fn fields<'a>(
+    alloc: Global,
+    source: &'a PullSource,
+    credentials: &'a str,
+    tag: Option<&'a [u8]>,
+) -> Result<Vec<Header<'a>>, AllocError> {
+    let mut fields = Vec::new(alloc);
+    fields.push(field(b"host", source.host.as_bytes()))?;
+    if !credentials.is_empty() {
+        fields.push(field(b"authorization", credentials.as_bytes()))?;
+    }
+    if let Some(tag) = tag {
+        fields.push(field(b"if-none-match", tag))?;
+    }
+    Ok(fields)
+}
+
+fn field<'a>(name: &'a [u8], value: &'a [u8]) -> Header<'a> {
+    Header { name, value }
 }
 
 /// The request that asks a source so, and what reads its answer.
 pub(crate) fn write_question(
     alloc: Global,
-    source: SocketAddr,
+    source: &PullSource,
     wanted: Wanted<'_>,
-) -> Result<(Client, Vec<u8>), AskError> {
+    wait: Option<u64>,
+) -> Result<(Client, Vec<u8>), SourceFailure> {
     let mut client = Client::new(Limits::default());
-    let question = ask(alloc, &mut client, source, wanted)?;
+    let question = ask(alloc, &mut client, source, wanted, wait)?;
     Ok((client, question))
 }
 
@@ -205,12 +249,16 @@ impl<L: SourceStream + Drop> SourceQuestion<L> {
         stream: L,
         client: Client,
         question: Vec<u8>,
-        for_pieces: bool,
+        subject: Subject,
+        wait: Option<u64>,
         until: Instant,
-    ) -> Result<SourceQuestion<L>, AllocError> {
+    ) -> Result<SourceQuestion<L>, AllocError>
+        ensures { IfOk result (λ asked. asked.subject ≡ subject) }
+    {
         Ok(SourceQuestion {
             stream,
-            for_pieces,
+            subject,
+            waits: wait.is_some(),
             client,
             question,
             sent: 0,
@@ -229,20 +277,30 @@ impl<L: SourceStream + Drop> SourceQuestion<L> {
         self.course
     }
 
-    /// Whether it asks for pieces, and not for the state.
-    pub(crate) fn is_for_pieces(&self) -> bool {
-        self.for_pieces
+    /// What kind of answer it asks for.
+    pub(crate) fn subject(&self) -> Subject
+        ensures { result ≡ self.now.subject }
+    {
+        self.subject
     }
 
-    /// What the whole answer says.
-    pub(crate) fn answer(&self) -> SourceAnswer<'_> {
-        match (self.for_pieces, self.course, self.code) {
-            (false, Course::Answered, 200) => SourceAnswer::State(&self.body.bytes),
-            (false, Course::Answered, 304) => SourceAnswer::Same,
-            (true, Course::Answered, 200) => SourceAnswer::Pieces(&self.body.bytes),
-            (true, Course::Answered | Course::Unfit, _) => SourceAnswer::Gone,
-            _ => SourceAnswer::None,
+    /// What the answer says, once there is no more to wait for.
+    pub(crate) fn answer(&self) -> SourceAnswer {
+        match (self.subject, self.course) {
+            (subject, Course::Answered) => SourceAnswer::of_status(subject, self.waits, self.code),
+            (Subject::Pieces, Course::Failed(SourceFailure::TooLong | SourceFailure::NoHttp)) => {
+                SourceAnswer::Gone
+            }
+            (_, Course::Failed(why)) => SourceAnswer::Failed(why),
+            (_, Course::Waiting) => SourceAnswer::Failed(SourceFailure::TimedOut),
         }
+    }
+
+    /// The body of the answer.
+    pub(crate) fn bytes(&self) -> &[u8]
+        ensures { result.now ≡ self.now.body.bytes.items }
+    {
+        &self.body.bytes
     }
 
     /// The place behind all pieces that the source had accepted as it answered; none where it named
@@ -251,9 +309,14 @@ impl<L: SourceStream + Drop> SourceQuestion<L> {
         PieceCursor::read(str::from_utf8(&self.cursor).ok()?)
     }
 
-    /// The tag of the state that it had as it answered.
+    /// The tag that the source named with what it answered.
     pub(crate) fn tag(&self) -> &[u8] {
         &self.tag
+    }
+
+    /// Whether it answered that nothing is new.
+    pub(crate) fn is_same(&self) -> bool {
+        self.code == 304
     }
 
     /// Goes on as far as the connection lets it.
@@ -261,18 +324,31 @@ impl<L: SourceStream + Drop> SourceQuestion<L> {
         if self.course != Course::Waiting {
             return;
         }
-        if is_due(now, self.until) || self.send().is_err() {
-            self.course = Course::Failed;
+        if is_due(now, self.until) {
+            self.course = Course::Failed(SourceFailure::TimedOut);
             return;
         }
-        match self.receive() {
+        match self.exchange() {
             Ok(()) => {}
-            Err(AnswerFault::Unfit) => self.course = Course::Unfit,
-            Err(AnswerFault::Lost) => self.course = Course::Failed,
+            Err(why) => self.course = Course::Failed(why),
         }
     }
 
-    fn send(&mut self) -> Result<(), AnswerFault> {
+    /// Sends and receives as far as the connection lets it.
+    fn exchange(&mut self) -> Result<(), SourceFailure> {
+        self.send()?;
+        self.receive()
+    }
+
+    /// Why the connection broke off: before anything was sent there was none.
+    fn breach(&self) -> SourceFailure {
+        match self.sent {
+            0 => SourceFailure::Unreachable,
+            _ => SourceFailure::CutOff,
+        }
+    }
+
+    fn send(&mut self) -> Result<(), SourceFailure> {
         for _ in 0..MOST_STEPS {
             let Some(rest) = self.question.get(self.sent..) else {
                 return Ok(());
@@ -284,26 +360,26 @@ impl<L: SourceStream + Drop> SourceQuestion<L> {
                 Ok(count) => self.sent = self.sent.saturating_add(count),
                 Err(StreamFault::WouldBlock) => return Ok(()),
                 Err(StreamFault::Interrupted) => {}
-                Err(StreamFault::Broken) => return Err(AnswerFault::Lost),
+                Err(StreamFault::Broken) => return Err(self.breach()),
             }
         }
         Ok(())
     }
 
-    fn receive(&mut self) -> Result<(), AnswerFault> {
+    fn receive(&mut self) -> Result<(), SourceFailure> {
         for _ in 0..MOST_STEPS {
             match self.stream.read(&mut self.room) {
                 Ok(0) => return self.end(),
                 Ok(count) => {
                     self.input.extend_from_slice(&self.room[..count])?;
                     if self.input.len() > MOST_BYTES {
-                        return Err(AnswerFault::Unfit);
+                        return Err(SourceFailure::TooLong);
                     }
                     self.read_answer()?;
                 }
                 Err(StreamFault::WouldBlock) => return Ok(()),
                 Err(StreamFault::Interrupted) => {}
-                Err(StreamFault::Broken) => return Err(AnswerFault::Lost),
+                Err(StreamFault::Broken) => return Err(self.breach()),
             }
             if self.course != Course::Waiting {
                 return Ok(());
@@ -312,26 +388,26 @@ impl<L: SourceStream + Drop> SourceQuestion<L> {
         Ok(())
     }
 
-    fn end(&mut self) -> Result<(), AnswerFault> {
+    fn end(&mut self) -> Result<(), SourceFailure> {
         match self.client.read_eof() {
             Ok(Event::End(_)) => {
                 self.course = Course::Answered;
                 Ok(())
             }
-            _ => Err(AnswerFault::Lost),
+            _ => Err(SourceFailure::CutOff),
         }
     }
 
     /// Reads what came, up to the answer's end.
-    fn read_answer(&mut self) -> Result<(), AnswerFault> {
+    fn read_answer(&mut self) -> Result<(), SourceFailure> {
         let mut spans = [EMPTY_HEADER_SPAN; MOST_FIELDS];
         let mut used = 0;
         for _ in 0..u64::MAX {
             let Some(rest) = self.input.get(used..) else {
-                return Err(AnswerFault::Unfit);
+                return Err(SourceFailure::NoHttp);
             };
             let Ok(progress) = self.client.read(rest, &mut spans) else {
-                return Err(AnswerFault::Unfit);
+                return Err(SourceFailure::NoHttp);
             };
             // Also where more has to come, as within the line that has the size of a chunk.
             used += progress.consumed;
@@ -343,7 +419,7 @@ impl<L: SourceStream + Drop> SourceQuestion<L> {
                 }
                 Event::Data(span) => {
                     let Some(piece) = rest.get(span.start..span.end) else {
-                        return Err(AnswerFault::Unfit);
+                        return Err(SourceFailure::NoHttp);
                     };
                     self.body.add(piece)?;
                 }
@@ -358,7 +434,7 @@ impl<L: SourceStream + Drop> SourceQuestion<L> {
         if used > 0 {
             let rest = match self.input.get(used..) {
                 Some(rest) => Vec::from_slice(*self.input.allocator(), rest)?,
-                None => return Err(AnswerFault::Unfit),
+                None => return Err(SourceFailure::NoHttp),
             };
             self.input = rest;
         }

@@ -2,6 +2,7 @@ ghost use Rattle.std.specs.Prelude.{◌≡◌, ◌≤◌, ℕ, Bool, List, Some,
 ghost use Rattle.http.specs.declared.request.Request.{Request};
 ghost use Rattle.http_server.specs.declared.response.Response.{Response};
 
+use crate::failure::SourceFailure;
 use crate::wait::{Wait, wait_of_request};
 use bytes::Bytes;
 use http::{HeaderValue, Request};
@@ -25,10 +26,15 @@ pub enum News {
     Now(u64),
     /// The source with this number answered.
     Answered(usize),
-    /// The source with this number could not be asked, or gave no answer.
-    Failed(usize),
+    /// The source with this number could not be asked, or gave no answer that was taken, and why.
+    Failed(usize, SourceFailure),
     /// No request can carry the tag of the source with this number, so it is forgotten.
     Forgotten(usize),
+    /// The source with this number answered the question for its layers, or said that it has none.
+    LayersAnswered(usize),
+    /// The source with this number could not be asked for its layers, or gave no answer that was
+    /// taken, and why.
+    LayersFailed(usize, SourceFailure),
 }
 
 /// What takes the states of other sites, and tells when its answers are others.
@@ -38,6 +44,9 @@ pub trait Gathers {
 
     // So of the bytes of pieces.
     ghost pulls_pieces: { Self → List ℕ → Bool → Self → Type 0 };
+
+    // So of layers bytes.
+    ghost pulls_layers: { Self → List ℕ → Bool → Self → Type 0 };
 
     // What is answered and what is kept are the same.
     ghost rests: { Self → Self → Type 0 };
@@ -51,6 +60,14 @@ pub trait Gathers {
     /// what is refused. Answers whether the bytes were those of pieces, and memory sufficed.
     fn pull_pieces(&mut self, bytes: &[u8]) -> bool
         ensures { pulls_pieces self.old bytes.now result self.new };
+
+    /// Whether the service keeps layers, so that other sites are asked for theirs.
+    fn has_layers(&self) -> bool;
+
+    /// Joins layers bytes of another site, or nothing of them. Answers whether they were joined, or
+    /// brought nothing.
+    fn pull_layers(&mut self, bytes: &[u8]) -> bool
+        ensures { pulls_layers self.old bytes.now result self.new };
 
     /// How many seconds the one who asks waits for a change, where this response has nothing new
     /// for it, and it is to be held back so long.

@@ -88,6 +88,9 @@ pub trait Runtime {
     fn watch(&mut self, client: &mut Self::Client, place: usize) -> bool
         ensures { Self.Client.written client.new ≡ Self.Client.written client.old };
 
+    /// The address of a name and a port, as in `eu.example.com:8420`, where it has one.
+    fn look_up(&mut self, host: &str) -> Option<SocketAddr>;
+
     /// Begins to connect to another site, by the number of that site.
     fn connect(&mut self, number: usize, at: SocketAddr) -> Result<Self::Source, StreamFault>;
 

@@ -16,7 +16,7 @@ pub(crate) struct Wait {
 }
 
 /// The fields that are asked again as they came.
-const FIELDS: [&str; 3] = ["host", "if-none-match", "connection"];
+const FIELDS: [&str; 4] = ["host", "authorization", "if-none-match", "connection"];
 
 /// How a request waits. One of another form, or for which memory is wanting, waits for nothing.
 pub(crate) fn wait_of_request(alloc: Global, request: &Request<Bytes>, seconds: u64) -> Option<Wait>
@@ -34,11 +34,12 @@ pub(crate) fn wait_of_request(alloc: Global, request: &Request<Bytes>, seconds: 
     }
 }
 
-/// The request for the same path that doesn't wait.
+/// The request for the same that doesn't wait: its query has no `wait`.
 fn question_of(alloc: Global, request: &Request<Bytes>) -> Result<Vec<u8>, AllocError> {
     let mut question = Vec::new(alloc);
     question.extend_from_slice(b"GET ")?;
     question.extend_from_slice(request.uri().path().as_bytes())?;
+    push_query(&mut question, request.uri().query().unwrap_or(""))?;
     question.extend_from_slice(b" HTTP/1.1\r\n")?;
     for name in FIELDS {
         if let Some(value) = request.headers().get(name) {
@@ -50,4 +51,18 @@ fn question_of(alloc: Global, request: &Request<Bytes>) -> Result<Vec<u8>, Alloc
     }
     question.extend_from_slice(b"\r\n")?;
     Ok(question)
+}
+
+/// Writes the parameters of a query but for `wait`.
+fn push_query(question: &mut Vec<u8>, query: &str) -> Result<(), AllocError> {
+    let mut mark = b'?';
+    for parameter in query.split('&') {
+        if parameter.is_empty() || parameter.starts_with("wait=") {
+            continue;
+        }
+        question.push(mark)?;
+        question.extend_from_slice(parameter.as_bytes())?;
+        mark = b'&';
+    }
+    Ok(())
 }

@@ -1,6 +1,6 @@
 use Rattle.cue_rounds.proofs.Steps.{changes_join}
 use Rattle.cue_rounds.proofs.asked.step.Goals as goal
 
-pub returns : goal.returns
-returns g c =
-    changes_join g.S.Gathers.pulls_state g.S.Gathers.pulls_pieces g.S.Gathers.rests _ c.take-outcome.new.service _ c.take-outcome.ensures.changes c.note_outcome.ensures
+pub returns-clause-changes : goal.returns-clause-changes
+returns-clause-changes g c =
+    changes_join g.S.Gathers.pulls_state g.S.Gathers.pulls_pieces g.S.Gathers.pulls_layers g.S.Gathers.rests _ c.take-outcome.new.service _ c.take-outcome.ensures.changes c.note_outcome.ensures.changes

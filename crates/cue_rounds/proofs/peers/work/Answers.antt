@@ -5,11 +5,11 @@ use Rattle.cue_rounds.proofs.peers.work.Goals as goal
 
 pub returns-then-not-is_ready : goal.returns-then-not-is_ready
 returns-then-not-is_ready g c =
-    ([], c.args.service.now.inner, refl, changes_itself g.S.Gathers.pulls_state g.S.Gathers.pulls_pieces g.S.Gathers.rests _, works_itself g.T.ClientStream.written _)
+    ([], c.args.service.now.inner, refl, changes_itself g.S.Gathers.pulls_state g.S.Gathers.pulls_pieces g.S.Gathers.pulls_layers g.S.Gathers.rests _, works_itself g.T.ClientStream.written _)
 
 pub returns-then-is_waiting : goal.returns-then-is_waiting
 returns-then-is_waiting g c =
-    ([], c.args.service.now.inner, refl, changes_itself g.S.Gathers.pulls_state g.S.Gathers.pulls_pieces g.S.Gathers.rests _, c.receive.ensures)
+    ([], c.args.service.now.inner, refl, changes_itself g.S.Gathers.pulls_state g.S.Gathers.pulls_pieces g.S.Gathers.pulls_layers g.S.Gathers.rests _, c.receive.ensures)
 
 pub returns : goal.returns
 returns g c =

@@ -3,4 +3,4 @@ use Rattle.cue_rounds.proofs.event_loop.Loop.count.Goals as goal
 
 pub returns-clause-changes : goal.returns-clause-changes
 returns-clause-changes g c =
-    changes_resting g.S.Gathers.pulls_state g.S.Gathers.pulls_pieces g.S.Gathers.rests _ _ c.note_news.ensures
+    changes_resting g.S.Gathers.pulls_state g.S.Gathers.pulls_pieces g.S.Gathers.pulls_layers g.S.Gathers.rests _ _ c.note_news.ensures

@@ -11,8 +11,8 @@ pub returns-then-not-settle-clause-err : goal.returns-then-not-settle-clause-err
 returns-then-not-settle-clause-err g c =
     let written = g.R.Client.ClientStream.written in
     let answers = g.S.Settle.answers in
-    let changes = Changes g.S.Gathers.pulls_state g.S.Gathers.pulls_pieces g.S.Gathers.rests in
-    let once = changes_once g.S.Gathers.pulls_state g.S.Gathers.pulls_pieces g.S.Gathers.rests in
+    let changes = Changes g.S.Gathers.pulls_state g.S.Gathers.pulls_pieces g.S.Gathers.pulls_layers g.S.Gathers.rests in
+    let once = changes_once g.S.Gathers.pulls_state g.S.Gathers.pulls_pieces g.S.Gathers.pulls_layers g.S.Gathers.rests in
     let places = c.count.ensures.peers ∙ c.ask.ensures.peers in
     let overdue = subst (λ (p : Peers _). Each (Works written) [] p.places.items c.end_overdue.new.self.places.items) places c.end_overdue.ensures in
     let asked = subst (λ (s : InRound _). changes s.inner c.ask.new.self.service.inner) c.take.ensures.service c.ask.ensures.changes in
@@ -27,8 +27,8 @@ pub returns-clause-ok : goal.returns-clause-ok
 returns-clause-ok g c =
     let written = g.R.Client.ClientStream.written in
     let answers = g.S.Settle.answers in
-    let changes = Changes g.S.Gathers.pulls_state g.S.Gathers.pulls_pieces g.S.Gathers.rests in
-    let once = changes_once g.S.Gathers.pulls_state g.S.Gathers.pulls_pieces g.S.Gathers.rests in
+    let changes = Changes g.S.Gathers.pulls_state g.S.Gathers.pulls_pieces g.S.Gathers.pulls_layers g.S.Gathers.rests in
+    let once = changes_once g.S.Gathers.pulls_state g.S.Gathers.pulls_pieces g.S.Gathers.pulls_layers g.S.Gathers.rests in
     let places = c.count.ensures.peers ∙ c.ask.ensures.peers in
     let overdue = subst (λ (p : Peers _). Each (Works written) [] p.places.items c.end_overdue.new.self.places.items) places c.end_overdue.ensures in
     let asked = subst (λ (s : InRound _). changes s.inner c.ask.new.self.service.inner) c.take.ensures.service c.ask.ensures.changes in
@@ -37,4 +37,4 @@ returns-clause-ok g c =
     c.take.new.self.peers.places.items c.end_overdue.new.self.places.items c.receive.new.self.places.items c.answer_waiting.new.self.places.items
     (once _ _ (inl c.note_news.ensures)) asked c.count.ensures.changes overdue c.receive.ensures c.answer_waiting.ensures in
     round_of_kept written answers changes g.S.Settle.settles _ c.answer_waiting.new.service.inner _ _ _ c.take.new.self.peers.places.items _ c.send.new.self.places.items _
-    c.take.ensures.opens worked c.if-not-settle.ensures (changes_itself g.S.Gathers.pulls_state g.S.Gathers.pulls_pieces g.S.Gathers.rests _) c.send.ensures c.close.ensures
+    c.take.ensures.opens worked c.if-not-settle.ensures (changes_itself g.S.Gathers.pulls_state g.S.Gathers.pulls_pieces g.S.Gathers.pulls_layers g.S.Gathers.rests _) c.send.ensures c.close.ensures
