@@ -81,7 +81,7 @@ fn names_one(hosts: &[String], field: &[u8]) -> bool
 }
 
 /// What the first field of this name has.
-fn field<'a>(request: &'a Request<Bytes>, name: &'static str) -> Option<&'a [u8]>
+pub(crate) fn field<'a>(request: &'a Request<Bytes>, name: &'static str) -> Option<&'a [u8]>
     ensures { option_map (λ value. value.now) result
         ≡ value_of (map to_ascii_lowercase name.now) request.now }
 {
@@ -91,7 +91,7 @@ fn field<'a>(request: &'a Request<Bytes>, name: &'static str) -> Option<&'a [u8]
     }
 }
 
-fn is_reading(request: &Request<Bytes>) -> bool
+pub(crate) fn is_reading(request: &Request<Bytes>) -> bool
     ensures { IsTrue result ↔ IsReading request.now }
 {
     let method = request.method().as_str();

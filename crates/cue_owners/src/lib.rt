@@ -11,4 +11,4 @@ mod words;
 
 pub use grant::Grant;
 pub use owners::{Access, Owners};
-pub use read::TokenFileError;
+pub use read::{TokenFileError, sole_token};

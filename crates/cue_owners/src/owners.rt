@@ -1,5 +1,5 @@
 ghost use Rattle.std.specs.Prelude.{◌≡◌, ◌↔◌, IsTrue, MatchOption, Any, string_bytes};
-ghost use Rattle.cue_owners.specs.Access.{HasAccess};
+ghost use Rattle.cue_owners.specs.Access.{HasAccess, IsKnown, MayWriteTo};
 ghost use Rattle.cue_owners.specs.Bearers.{IsBearer};
 ghost use Rattle.cue_owners.specs.Grants.{token_of, Reaches};
 
@@ -36,6 +36,23 @@ impl Owners {
                 true => Access::Barred,
                 false => Access::Unknown,
             },
+        }
+    }
+
+    /// Whether a field `Authorization` of these bytes has a token of the file.
+    pub fn knows(&self, field: &[u8]) -> bool
+        ensures { IsTrue result ↔ IsKnown self.now field.now }
+    {
+        is_known(self.grants.as_slice(), field)
+    }
+
+    /// Whether it has a token that may write a target.
+    pub fn lets_write(&self, field: &[u8], target: &[u8]) -> bool
+        ensures { IsTrue result ↔ MayWriteTo self.now field.now target.now }
+    {
+        match owner_for(self.grants.as_slice(), field, target) {
+            Some(_) => true,
+            None => false,
         }
     }
 }

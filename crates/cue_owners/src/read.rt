@@ -52,7 +52,6 @@ impl Owners {
     /// # Errors
     ///
     /// The number of the first line that is wrong, that there is no token, or out of memory.
-
     pub fn read(alloc: Global, text: &[u8]) -> Result<Owners, TokenFileError>
         ensures ok { IfOk result (λ owners. IsTokenFile text.now owners.grants.items) }
         ensures err { IfErr result (IsRefusedFile text.now) }
@@ -66,10 +65,9 @@ impl Owners {
     }
 }
 
-/// The grants of a text that is one token.
-fn lone_token(alloc: Global, text: &[u8]) -> Result<Option<Vec<Grant>>, AllocError>
-    ensures some { IfOk result (λ found. IfSome found (λ grants. (token : List ℕ) × IsLone token text.now
-        × (map row_of grants.items ≡ lone_row token ∷ []))) }
+/// The token of a text that is one token.
+pub fn sole_token(alloc: Global, text: &[u8]) -> Result<Option<Vec<u8>>, AllocError>
+    ensures some { IfOk result (λ found. IfSome found (λ token. IsLone token.items text.now)) }
     ensures none { IfOk result (λ found. IfNone found ((token : List ℕ) → ¬ IsLone token text.now)) }
 {
     let words = words_in(alloc, text)?;
@@ -82,7 +80,19 @@ fn lone_token(alloc: Global, text: &[u8]) -> Result<Option<Vec<Grant>>, AllocErr
     if !is_token(token) {
         return Ok(None);
     }
-    Ok(Some(lone_grants(alloc, token)?))
+    Ok(Some(Vec::from_slice(alloc, token)?))
+}
+
+/// The grants of a text that is one token.
+fn lone_token(alloc: Global, text: &[u8]) -> Result<Option<Vec<Grant>>, AllocError>
+    ensures some { IfOk result (λ found. IfSome found (λ grants. (token : List ℕ) × IsLone token text.now
+        × (map row_of grants.items ≡ lone_row token ∷ []))) }
+    ensures none { IfOk result (λ found. IfNone found ((token : List ℕ) → ¬ IsLone token text.now)) }
+{
+    match sole_token(alloc, text)? {
+        None => Ok(None),
+        Some(token) => Ok(Some(lone_grants(alloc, &token)?)),
+    }
 }
 
 /// The grants of lines.

@@ -1,7 +1,8 @@
-use Rattle.std.proofs.Common.{length, sym, ap, ◌∙◌}
+use Rattle.std.proofs.Common.{ℕ, List, length, sym, subst, ap, ◌∙◌}
 use Rattle.std.proofs.lemmas.Bool.{false≢true}
+use Rattle.cue_owners.specs.Files.{IsLone}
 use Rattle.cue_owners.proofs.Whole.{no_token, more_words, the_word, other_word, is_none, is_some}
-use Rattle.cue_owners.proofs.read.lone_token.Goals as goal
+use Rattle.cue_owners.proofs.read.sole_token.Goals as goal
 
 pub returns-in_default-clause-none : goal.returns-in_default-clause-none
 returns-in_default-clause-none c =
@@ -22,4 +23,5 @@ pub returns-clause-some : goal.returns-clause-some
 returns-clause-some c =
     let word = the_word c.args.text.now c.in_ok-words.words.items c.in-Some.rest.now c.in-Some.token.now c.in_ok-words.ensures (sym c.deref.ensures.value ∙ c.in-Some.ensures.cases.0)
     (is_none (length c.in-Some.rest.now) c.is_empty.result c.is_empty.ensures c.if-not-is_empty.false) in
-    (c.in-Some.token.now.now, (word, c.is_token.ensures.0 c.if-not-is_token.false), c.in_ok-lone_grants.ensures)
+    let P : List ℕ → Type 0 = λ t. IsLone t c.args.text.now in
+    subst P (sym c.in_ok-from_slice.ensures.items) (word, c.is_token.ensures.0 c.if-not-is_token.false)
