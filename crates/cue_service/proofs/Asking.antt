@@ -75,9 +75,9 @@ cursor_may_stand run count small less =
 
 -- a response with these fields more
 pub asked_more :
-    (question : SiteQuestion) (table : Table) (request : Request (List ℕ)) (more : List Header) (before after : Response) → IsAsked question table request [] before
-    → after.status ≡ before.status → after.body ≡ before.body → fields_of after ≡ fields_of before ++ more → IsAsked question table request more after
-asked_more question table request more before after (inl same) status body fields = inl (record {
+    (limit : ℕ) (question : SiteQuestion) (table : Table) (request : Request (List ℕ)) (more : List Header) (before after : Response) → IsAsked limit question table request [] before
+    → after.status ≡ before.status → after.body ≡ before.body → fields_of after ≡ fields_of before ++ more → IsAsked limit question table request more after
+asked_more limit question table request more before after (inl same) status body fields = inl (record {
   known = same.known;
   answer = record {
     status = status ∙ same.answer.status;
@@ -85,13 +85,19 @@ asked_more question table request more before after (inl same) status body field
     body = ap (λ (b : Filled). b.items) body ∙ same.answer.body;
   };
 })
-asked_more question table request more before after (inr told) status body fields = inr (record {
+asked_more limit question table request more before after (inr (inl told)) status body fields = inr (inl (record {
   unknown = told.unknown;
   told = told.told;
   whole = told.whole;
+  within = told.within;
   answer = record {
     status = status ∙ told.answer.status;
     headers = fields ∙ ap (λ (l : List Header). l ++ more) told.answer.headers;
     body = ap (λ (b : Filled). b.items) body ∙ told.answer.body;
   };
-})
+}))
+asked_more limit question table request more before after (inr (inr other)) status body fields = inr (inr (record {
+  unknown = other.unknown;
+  over = other.over;
+  answer = (status ∙ other.answer.0, fields ∙ ap (λ (l : List Header). l ++ more) other.answer.1);
+}))

@@ -13,19 +13,19 @@ use Rattle.cue_service.specs.Entries.{entry_of}
 use Rattle.cue_service.specs.Listing.{AreListed}
 
 pub same_desk : (desk : SiteCore) → IsSame desk desk
-same_desk desk = record { token = refl; table = refl; waits = refl; pieces = refl }
+same_desk desk = record { rules = refl; table = refl; waits = refl; pieces = refl }
 
 pub both_same : (old mid new : SiteCore) → IsSame old mid → IsSame mid new → IsSame old new
 both_same old mid new first second = record {
-  token = second.token ∙ first.token;
+  rules = second.rules ∙ first.rules;
   table = second.table ∙ first.table;
   waits = second.waits ∙ first.waits;
   pieces = second.pieces ∙ first.pieces;
 }
 
-taken_from : (piece : Piece) (old mid new : SiteCore) → IsSame old mid → IsPieceTaken piece mid new → IsPieceTaken piece old new
+pub taken_from : (piece : Piece) (old mid new : SiteCore) → IsSame old mid → IsPieceTaken piece mid new → IsPieceTaken piece old new
 taken_from piece old mid new same taken = record {
-  token = taken.token ∙ same.token;
+  rules = taken.rules ∙ same.rules;
   acceptable = taken.acceptable;
   fits = taken.fits;
   adds = subst (λ (t : Table). AddsRefusals t (piece_refuses language piece) new.board) same.table taken.adds;

@@ -1,9 +1,12 @@
+pub mod Admitted
 pub mod Alike
 pub mod Asking
 pub mod Bearers
+pub mod Bounded
 pub mod Condensing
 pub mod Consistent
 pub mod Digests
+pub mod Elements
 pub mod Fields
 pub mod Gathered
 pub mod Handing

@@ -103,14 +103,18 @@ handed_to hand old new request response is done (inl taken) =
 handed_to hand old new request response is done (inr known) =
     inr (inl (piece_of_bytes hand (body_of request), known, is_acknowledged request response done ∙ ap (λ (p : Piece). p ∷ []) (handed_in hand request is)))
 
-asked : (question : SiteQuestion) (old new : SiteCore) (request : Request (List ℕ)) (response : Response) → IsSame old new → IsAsked question old.board request (place_fields question old.pieces) response → Moves old request response new
+asked : (question : SiteQuestion) (old new : SiteCore) (request : Request (List ℕ)) (response : Response) → IsSame old new → IsAsked old.rules.limit question old.board request (place_fields question old.pieces) response → Moves old request response new
 asked question old new request response same (inl known) = nothing old new request response 304 same known.answer.status (omega arith)
-asked question old new request response same (inr told) = nothing old new request response _ same told.answer.status (told_status question told.told.status)
+asked question old new request response same (inr (inl told)) = nothing old new request response _ same told.answer.status (told_status question told.told.status)
+asked question old new request response same (inr (inr long)) = nothing old new request response 507 same long.answer.0 (omega arith)
 
 told_pieces : (old new : SiteCore) (request : Request (List ℕ)) (response : Response) → IsSame old new → AnswersWithPieces old.pieces request response → Moves old request response new
 told_pieces old new request response same (inl told) = nothing old new request response 200 same told.head.0 (omega arith)
 told_pieces old new request response same (inr (inl gone)) = nothing old new request response 410 same gone.answer.status (omega arith)
 told_pieces old new request response same (inr (inr none)) = nothing old new request response 400 same none.answer.status (omega arith)
+
+not_204 : ◌≡◌ {A = ℕ} 413 204 → ⊥
+not_204 e = absurd (omega (arith, e))
 
 moves : (route : Route) (old new : SiteCore) (request : Request (List ℕ)) (response : Response) → IsRoute route request → AnswersAs route old request response new → Moves old request response new
 moves (Ask question) old new request response is a = asked question old new request response a.0 a.1
@@ -118,7 +122,9 @@ moves Pieces old new request response is a = told_pieces old new request respons
 moves (Take hand) old new request response is (inl (inl barred)) = nothing old new request response 401 barred.same barred.answer.status (omega arith)
 moves (Take hand) old new request response is (inl (inr encoded)) = nothing old new request response 415 encoded.same encoded.answer.status (omega arith)
 moves (Take hand) old new request response is (inr (inl done)) = handed_to hand old new request response is done.answer.status done.done
-moves (Take hand) old new request response is (inr (inr (inr full))) = nothing old new request response 507 full.same full.answer.0 (omega arith)
+moves (Take hand) old new request response is (inr (inr (inr (inl full)))) = nothing old new request response 507 full.same full.answer.0 (omega arith)
+moves (Take hand) old new request response is (inr (inr (inr (inr costly)))) =
+    inr (inr (costly.same, not_acknowledged request response (λ e. not_204 (sym costly.answer.0 ∙ e))))
 moves (Take hand) old new request response is (inr (inr (inl refused))) =
     inr (inr (refused.same, not_acknowledged request response (λ e. refused_status refused.why.kind (sym refused.answer.0 ∙ e))))
 moves Health old new request response is a = nothing old new request response 200 a.0 a.1.status (omega arith)

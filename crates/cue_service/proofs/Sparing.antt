@@ -17,23 +17,23 @@ use Rattle.cue_service.proofs.Listing.{listed_less}
 
 pub spared : (old new : SiteCore) → IsSame old new → IsSpared old new
 spared old new same = record {
-  token = same.token;
+  rules = same.rules;
   table = same.table;
   waits = same.waits;
   pieces = subst (GivesUp old.pieces) (sym same.pieces) (none_given_up old.pieces);
 }
 
-pub spared_from : (old mid new : SiteCore) → mid.token ≡ old.token → mid.board ≡ old.board → batch_bytes mid.batch ≡ batch_bytes old.batch → GivesUp old.pieces mid.pieces → IsSame mid new → IsSpared old new
-spared_from old mid new token table waits gives same = record {
-  token = same.token ∙ token;
+pub spared_from : (old mid new : SiteCore) → mid.rules ≡ old.rules → mid.board ≡ old.board → batch_bytes mid.batch ≡ batch_bytes old.batch → GivesUp old.pieces mid.pieces → IsSame mid new → IsSpared old new
+spared_from old mid new rules table waits gives same = record {
+  rules = same.rules ∙ rules;
   table = same.table ∙ table;
   waits = same.waits ∙ waits;
   pieces = subst (GivesUp old.pieces) (sym same.pieces) gives;
 }
 
-pub taken_spared : (piece : Piece) (old mid new : SiteCore) → mid.token ≡ old.token → mid.board ≡ old.board → batch_bytes mid.batch ≡ batch_bytes old.batch → GivesUp old.pieces mid.pieces → IsPieceTaken piece mid new → IsPieceTaken piece old new
-taken_spared piece old mid new token table waits gives taken = record {
-  token = taken.token ∙ token;
+pub taken_spared : (piece : Piece) (old mid new : SiteCore) → mid.rules ≡ old.rules → mid.board ≡ old.board → batch_bytes mid.batch ≡ batch_bytes old.batch → GivesUp old.pieces mid.pieces → IsPieceTaken piece mid new → IsPieceTaken piece old new
+taken_spared piece old mid new rules table waits gives taken = record {
+  rules = taken.rules ∙ rules;
   acceptable = taken.acceptable;
   fits = taken.fits;
   adds = subst (λ (t : Table). AddsRefusals t (piece_refuses language piece) new.board) table taken.adds;

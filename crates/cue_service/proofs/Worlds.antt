@@ -235,12 +235,13 @@ other_status code request response is differ asked = differ (sym is ∙ asked.1)
 abbrev is_quiet : SiteCore → Request (List ℕ) → Response → Type 0
 is_quiet old request response = (IsStateAnswer (request, response) × (response.body.items ≡ language.written old.board)) ⊎ (¬ IsStateAnswer (request, response))
 
-asked_quiet : (question : SiteQuestion) (old new : SiteCore) (request : Request (List ℕ)) (response : Response) → IsRoute (Ask question) request → IsAsked question old.board request (place_fields question old.pieces) response → is_quiet old request response
+asked_quiet : (question : SiteQuestion) (old new : SiteCore) (request : Request (List ℕ)) (response : Response) → IsRoute (Ask question) request → IsAsked old.rules.limit question old.board request (place_fields question old.pieces) response → is_quiet old request response
 asked_quiet question old new request response route (inl known) = inr (other_status 304 request response known.answer.status (omega arith))
-asked_quiet questions.Export old new request response route (inr told) = inr (other_path (codes "/export") request response route.1 (other_at 1 _ _ (omega arith)))
-asked_quiet questions.Print old new request response route (inr told) = inr (other_path (codes "/print") request response route.1 (other_at 1 _ _ (omega arith)))
-asked_quiet questions.Report old new request response route (inr told) = inr (other_path (codes "/report") request response route.1 (other_at 1 _ _ (omega arith)))
-asked_quiet questions.State old new request response route (inr told) = inl ((route, told.answer.status), told.answer.body ∙ told.whole.0)
+asked_quiet question old new request response route (inr (inr long)) = inr (other_status 507 request response long.answer.0 (omega arith))
+asked_quiet questions.Export old new request response route (inr (inl told)) = inr (other_path (codes "/export") request response route.1 (other_at 1 _ _ (omega arith)))
+asked_quiet questions.Print old new request response route (inr (inl told)) = inr (other_path (codes "/print") request response route.1 (other_at 1 _ _ (omega arith)))
+asked_quiet questions.Report old new request response route (inr (inl told)) = inr (other_path (codes "/report") request response route.1 (other_at 1 _ _ (omega arith)))
+asked_quiet questions.State old new request response route (inr (inl told)) = inl ((route, told.answer.status), told.answer.body ∙ told.whole.0)
 
 quiet : (route : Route) (old new : SiteCore) (request : Request (List ℕ)) (response : Response) → IsRoute route request → AnswersAs route old request response new → is_quiet old request response
 quiet (Ask question) old new request response is a = asked_quiet question old new request response is a.1

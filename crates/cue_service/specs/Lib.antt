@@ -1,10 +1,12 @@
 pub mod Access
 pub mod Answering
+pub mod Conditions
 pub mod Editions
 pub mod Entries
 pub mod Escapes
 pub mod Inner
 pub mod Kept
+pub mod Limits
 pub mod Listing
 pub mod Pages
 pub mod Promise

@@ -84,10 +84,10 @@ query_of request = uri_query (head_of request).uri
 abbrev pub AsksBehind : List ℕ → Request (List ℕ) → Type 0
 AsksBehind place request = query_of request ≡ Some (codes "after=" ++ place)
 
--- the first field of this name has this value
-abbrev pub HasField : List ℕ → List ℕ → Request (List ℕ) → Type 0
-HasField name value request =
-    (field : FieldValue) × (get (head_of request).headers name ≡ Some field) × (field.bytes ≡ value)
+-- this holds of the first field of this name
+abbrev pub HasField : List ℕ → (List ℕ → Type 0) → Request (List ℕ) → Type 0
+HasField name holds request =
+    (field : FieldValue) × (get (head_of request).headers name ≡ Some field) × holds field.bytes
 
 -- the body of the request is encoded
 abbrev pub HasEncodedBody : Request (List ℕ) → Type 0

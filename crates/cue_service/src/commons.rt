@@ -31,13 +31,13 @@ impl<D: Disk> ServesCommons for Site<D> {
 
     ghost commons = { λ site. site.desk.board };
 
-    ghost lets_write = { λ site request. MayWrite site.desk.token request };
+    ghost lets_write = { λ site request. MayWrite site.desk.rules.token request };
 
     fn commons(&self) -> &Replica {
         self.desk.board.table()
     }
 
     fn may_write(&self, request: &Request<Bytes>) -> bool {
-        may_write(&self.desk.token, request)
+        may_write(&self.desk.rules.token, request)
     }
 }

@@ -3,26 +3,30 @@ ghost use Rattle.cue_journal.specs.Blocks.{recovered_pieces};
 ghost use Rattle.cue_journal.specs.Settled.{IsBatch};
 ghost use Rattle.cue_journal.specs.Batches.{batch_bytes};
 ghost use Rattle.cue_service.specs.Editions.{IsEdition};
+ghost use Rattle.cue_service.specs.Inner.Admissions.{IsAdmittedOrKnown};
 ghost use Rattle.cue_service.specs.Entries.{entry_of};
 ghost use Rattle.cue_service.specs.Listing.{with_entry};
 ghost use Rattle.http_server.specs.Response.{IsBlank};
 ghost use Rattle.cue_lattice.specs.World.{state};
 ghost use Rattle.cue_service.specs.Pulls.{CoversPiece};
 ghost use Rattle.cue_service.specs.Refusals.{IsLeftOut, IsRefusalOf};
-ghost use Rattle.cue_service.specs.Requests.{IsRoute, HasEncodedBody, HasField, piece_of_bytes};
+ghost use Rattle.cue_service.specs.Requests.{IsRoute, HasEncodedBody, piece_of_bytes};
 ghost use Rattle.cue_service.specs.Statuses.{status_of_answer, type_of_answer};
 ghost use Rattle.cue_service.specs.Tags.{tag_of};
 ghost use Rattle.cue_service.specs.Answering.{AnswersRequest, AnswersAs, IsAsked, IsHandedToSite, IsPieceTaken, IsTagKnown, IsSame, IsSpared, LeavesUnanswered, GathersState, BringsState};
 
-use crate::access::{AccessToken, may_write};
+use crate::access::may_write;
+use crate::admission::Admission;
 use crate::board::CachedTable;
+use crate::conditions::has_tag;
 use crate::editions::Editions;
 use crate::entries::submit_piece;
 use crate::listed::{answer_pieces, name_with_state};
 use crate::page::page;
-use crate::refusal::{answer_no_room, answer_refusal};
+use crate::refusal::{answer_no_room, answer_not_given, answer_over_limit, answer_refusal};
 use crate::responses::{answer_body, answer_field, answer_status, answer_tagged, answer_unchanged};
 use crate::route::{PieceKind, Route, route_of};
+use crate::rules::SiteRules;
 use crate::standing::Standing;
 use bytes::Bytes;
 use cue_journal::{Batch, BlockError, Pieces};
@@ -41,7 +45,7 @@ pub struct SiteCore {
     pub(crate) board: CachedTable,
     pub(crate) batch: Batch,
     pub(crate) pieces: Pieces,
-    pub(crate) token: Option<AccessToken>,
+    pub(crate) rules: SiteRules,
     pub(crate) standing: Standing,
     pub(crate) editions: Editions,
 }
@@ -61,7 +65,7 @@ fn mark(hand: PieceKind) -> u8
 /// # Errors
 ///
 /// `TooLong` for one of 4 GiB, and `Memory`. Nothing changes.
-fn queue(
+pub(crate) fn queue(
     batch: &mut Batch,
     pieces: &mut Pieces,
     hand: PieceKind,
@@ -97,21 +101,21 @@ impl SiteCore {
     pub fn new(
         alloc: Global,
         board: Replica,
-        token: Option<AccessToken>,
+        rules: SiteRules,
         standing: Standing,
         run: u64,
     ) -> SiteCore
         ensures board { result.board ≡ board }
         ensures pieces { result.pieces ≡ record { run = run; given_up = 0; kept = [] } }
         ensures empty { batch_bytes result.batch ≡ [] }
-        ensures token { result.token ≡ token }
+        ensures rules { result.rules ≡ rules }
     {
         SiteCore {
             alloc,
             board: CachedTable::new(alloc, board),
             batch: Batch::new(alloc),
             pieces: Pieces::new(alloc, run),
-            token,
+            rules,
             standing,
             editions: Editions::new(),
         }
@@ -150,7 +154,15 @@ impl SiteCore {
     {
         match route {
             Route::Ask(question) => {
-                answer_question(&mut self.board, question, request, response)?;
+                answer_question(
+                    &mut self.board,
+                    self.rules.limit,
+                    question,
+                    request,
+                    response,
+                )?;
+                self.standing
+                    .note_sizes(self.board.sizes(), self.rules.limit);
                 name_with_state(self.alloc, question, &self.pieces, response)
             }
             Route::Pieces => {
@@ -168,12 +180,19 @@ impl SiteCore {
                 )
             }
             Route::Metrics => {
-                let text = self.standing.metrics(self.alloc, &mut self.board)?;
+                let text = self
+                    .standing
+                    .metrics(self.alloc, &mut self.board, self.rules.limit)?;
                 let body = Bytes::from_string(text)?;
                 answer_body(response, StatusCode::OK, "text/plain; version=0.0.4", body)
             }
             Route::Page => {
-                let text = page(self.alloc, &mut self.board, &self.standing)?;
+                let text = page(
+                    self.alloc,
+                    &mut self.board,
+                    self.rules.limit,
+                    &self.standing,
+                )?;
                 let body = Bytes::from_string(text)?;
                 answer_body(response, StatusCode::OK, "text/html; charset=utf-8", body)
             }
@@ -211,7 +230,7 @@ impl SiteCore {
         ensures ok { OnOk result (IsHandedToSite hand self.old request.now response.new self.new) }
         ensures err { OnErr result (IsSpared self.old self.new) }
     {
-        if !may_write(&self.token, request) {
+        if !may_write(&self.rules.token, request) {
             let status = StatusCode::UNAUTHORIZED;
             return answer_field(response, status, header::WWW_AUTHENTICATE, "Bearer");
         }
@@ -225,10 +244,14 @@ impl SiteCore {
         }
         let bytes = request.body().as_slice();
         match self.take_in(hand, bytes) {
-            Ok(()) => {
+            Ok(Admission::Accepted) => {
                 self.standing.note_taken();
                 answer_status(response, StatusCode::NO_CONTENT);
                 Ok(())
+            }
+            Ok(Admission::OverLimit(question)) => {
+                self.standing.note_over_limit(question);
+                answer_over_limit(self.alloc, question, self.rules.limit, response)
             }
             Err(why) => {
                 self.standing.refuse(why.kind, why.place);
@@ -237,42 +260,40 @@ impl SiteCore {
         }
     }
 
-    /// Accepts a piece, unless it is known. If memory runs out, older pieces are given up, and it is
-    /// tried once more.
+    /// Accepts a piece that is posted, unless it is known. If memory runs out, older pieces are given
+    /// up, and it is tried once more.
     ///
     /// # Errors
     ///
     /// Those of the site. Nothing changes but the pieces that are kept.
-    fn take_in(&mut self, hand: PieceKind, bytes: &[u8]) -> Result<(), Refusal>
-        ensures ok { OnOk result (IsPieceTaken (piece_of_bytes hand bytes.now) self.old self.new
-            ⊎ IsTagKnown (piece_of_bytes hand bytes.now) self.old self.new) }
+    fn take_in(&mut self, hand: PieceKind, bytes: &[u8]) -> Result<Admission, Refusal>
+        ensures ok { IfOk result (λ admission. IsAdmittedOrKnown IsSpared (piece_of_bytes hand bytes.now) admission self.old self.new) }
         ensures left_out { IfErr result (IsLeftOut (piece_of_bytes hand bytes.now)) }
         ensures err { OnErr result (IsSpared self.old self.new) }
     {
-        match self.accept_new(hand, bytes) {
+        match self.admit_new(hand, bytes) {
             Err(why) if why.kind == Kind::Memory => {
                 self.pieces.halve();
-                self.accept(hand, bytes)
+                self.admit(hand, bytes)
             }
             done => done,
         }
     }
 
-    /// Accepts a piece, unless it is known.
+    /// Accepts a piece that is posted, unless it is known.
     ///
     /// # Errors
     ///
     /// Those of the site. Nothing changes.
-    fn accept_new(&mut self, hand: PieceKind, bytes: &[u8]) -> Result<(), Refusal>
-        ensures ok { OnOk result (IsPieceTaken (piece_of_bytes hand bytes.now) self.old self.new
-            ⊎ IsTagKnown (piece_of_bytes hand bytes.now) self.old self.new) }
+    fn admit_new(&mut self, hand: PieceKind, bytes: &[u8]) -> Result<Admission, Refusal>
+        ensures ok { IfOk result (λ admission. IsAdmittedOrKnown IsSame (piece_of_bytes hand bytes.now) admission self.old self.new) }
         ensures left_out { IfErr result (IsLeftOut (piece_of_bytes hand bytes.now)) }
         ensures err { OnErr result (IsSame self.old self.new) }
     {
         if self.contains_piece(hand, bytes)? {
-            return Ok(());
+            return Ok(Admission::Accepted);
         }
-        self.accept(hand, bytes)
+        self.admit(hand, bytes)
     }
 
     /// Whether a piece is found among those that were accepted, and brings nothing.
@@ -360,22 +381,26 @@ impl SiteCore {
     }
 }
 
-/// Answers a question, unless the one who asks has the table.
+/// Answers a question, unless the one who asks has the table, or the answer has more bytes than a
+/// limit.
 pub fn answer_question(
     board: &mut CachedTable,
+    limit: usize,
     question: SiteQuestion,
     request: &Request<Bytes>,
     response: &mut Response,
 ) -> Result<(), Memory>
     requires { IsBlank response.old }
-    ensures asked { OnOk result (IsAsked question board.old request.now [] response.new) }
+    ensures asked { OnOk result (IsAsked limit question board.old request.now [] response.new) }
     ensures same { board.new ≡ board.old }
 {
     let tag = board.tag()?;
-    if is_known(request, tag.as_bytes()) {
+    if has_tag(request, tag.as_bytes()) {
         return answer_unchanged(response, tag);
     }
-    let told = board.answer_to(question)?;
+    let Some(told) = board.answer_within(question, limit)? else {
+        return answer_not_given(board.alloc(), limit, tag, response);
+    };
     let status = status_code(question, told.status);
     let kind = content_type(question, told.status);
     answer_tagged(response, status, tag, kind, told.bytes)
@@ -405,21 +430,6 @@ fn is_encoded(request: &Request<Bytes>) -> bool
         Some(_) => true,
         None => false,
     }
-}
-
-fn is_known(request: &Request<Bytes>, tag: &[u8]) -> bool
-    ensures { IsTrue result ↔ HasField (codes "if-none-match") tag.now request.now }
-{
-    match request.headers().get("if-none-match") {
-        Some(known) => is_tag(known.as_bytes(), tag),
-        None => false,
-    }
-}
-
-fn is_tag(value: &[u8], tag: &[u8]) -> bool
-    ensures { IsTrue result ↔ (value.now ≡ tag.now) }
-{
-    value == tag
 }
 
 fn status_code(question: SiteQuestion, status: Status) -> StatusCode

@@ -1,6 +1,8 @@
-ghost use Rattle.std.specs.Prelude.{◌≡◌, ℕ, List, IfOk, IfSome};
+ghost use Rattle.std.specs.Prelude.{◌≡◌, ℕ, List, false, IfOk, IfSome, IsTrue};
 ghost use Rattle.cue_replica.specs.Language.{Table};
-ghost use Rattle.cue_service.specs.Kept.{AreAnswersKept, IsKeptAnswer};
+ghost use Rattle.cue_replica.specs.declared.question.SiteQuestion.{SiteQuestion as Question};
+ghost use Rattle.cue_service.specs.Kept.{AreAnswersKept, IsKeptAnswer, IsCachedAnswer, IsWithin};
+ghost use Rattle.cue_service.specs.Limits.{IsOverLimit};
 ghost use Rattle.cue_service.specs.Tags.{tag_of};
 
 use bytes::Bytes;
@@ -38,14 +40,35 @@ impl KeptAnswer {
     }
 }
 
+/// What is kept of an answer: the answer, or a limit that it is over.
+#[derive(Drop)]
+pub(crate) enum CachedAnswer {
+    Whole(KeptAnswer),
+    LongerThan(usize),
+}
+
+impl CachedAnswer {
+    /// Whether the answer is known to have more bytes than a limit.
+    pub(crate) fn is_over(&self, limit: usize) -> bool
+        ensures over { IsTrue result → (table : Table) (question : Question)
+            → IsCachedAnswer question table self.now → IsOverLimit limit question table }
+        ensures within { result ≡ false → IsWithin limit self.now }
+    {
+        match self {
+            CachedAnswer::Whole(told) => told.bytes.len() > limit,
+            CachedAnswer::LongerThan(length) => *length >= limit,
+        }
+    }
+}
+
 /// The tag of a table and what was told of it, each where it was asked for.
 #[derive(Drop)]
 pub(crate) struct AnswerCache {
     pub(crate) tag: Option<HeaderValue>,
-    pub(crate) export: Option<KeptAnswer>,
-    pub(crate) print: Option<KeptAnswer>,
-    pub(crate) report: Option<KeptAnswer>,
-    pub(crate) state: Option<KeptAnswer>,
+    pub(crate) export: Option<CachedAnswer>,
+    pub(crate) print: Option<CachedAnswer>,
+    pub(crate) report: Option<CachedAnswer>,
+    pub(crate) state: Option<CachedAnswer>,
 }
 
 impl AnswerCache {
@@ -61,9 +84,9 @@ impl AnswerCache {
         }
     }
 
-    pub(crate) fn find_answer(&self, question: SiteQuestion) -> Option<&KeptAnswer>
+    pub(crate) fn find_answer(&self, question: SiteQuestion) -> Option<&CachedAnswer>
         ensures { (table : Table) → AreAnswersKept table self.now
-            → IfSome result (λ told. IsKeptAnswer question table told.now) }
+            → IfSome result (λ found. IsCachedAnswer question table found.now) }
     {
         match question {
             SiteQuestion::Export => self.export.as_ref(),
@@ -73,8 +96,8 @@ impl AnswerCache {
         }
     }
 
-    pub(crate) fn keep(&mut self, question: SiteQuestion, told: KeptAnswer)
-        ensures { (table : Table) → AreAnswersKept table self.old → IsKeptAnswer question table told
+    pub(crate) fn keep(&mut self, question: SiteQuestion, told: CachedAnswer)
+        ensures { (table : Table) → AreAnswersKept table self.old → IsCachedAnswer question table told
             → AreAnswersKept table self.new }
     {
         match question {
@@ -83,6 +106,11 @@ impl AnswerCache {
             SiteQuestion::Report => self.report = Some(told),
             SiteQuestion::State => self.state = Some(told),
         }
+    }
+
+    /// Whether all that counts are taken from is kept.
+    pub(crate) fn is_full(&self) -> bool {
+        self.export.is_some() && self.report.is_some() && self.state.is_some()
     }
 
     pub(crate) fn keep_tag(&mut self, tag: HeaderValue)

@@ -1,70 +1,28 @@
-ghost use Rattle.std.specs.Prelude.{◌≡◌, IfOk};
+ghost use Rattle.std.specs.Prelude.{◌≡◌};
 
 use crate::board::CachedTable;
+use crate::counts::TableCounts;
 use crate::shown::Shown;
+use crate::sizes::AnswerSizes;
 use crate::standing::Standing;
 use cue_lattice::Memory;
-use cue_replica::{SiteQuestion, Status};
 use std::alloc::Global;
 use std::fmt::Write;
 
-/// What is counted of a table.
-#[derive(Clone, Copy)]
-struct Counts {
-    conflicts: u64,
-    gaps: u64,
-    rows: u64,
-    bytes: u64,
-}
-
-/// What is counted of the table that a board holds.
-fn counts_of(board: &mut CachedTable) -> Result<Counts, Memory>
-    ensures same { board.new ≡ board.old }
-{
-    let export = board.answer_to(SiteQuestion::Export)?;
-    let report = board.answer_to(SiteQuestion::Report)?;
-    let state = board.answer_to(SiteQuestion::State)?;
-    let all = lines(report.bytes.as_slice());
-    let conflicts = match export.status {
-        Status::Conflicts => lines(export.bytes.as_slice()),
-        _ => 0,
-    };
-    Ok(Counts {
-        conflicts,
-        gaps: all.saturating_sub(conflicts),
-        rows: rows_in(state.bytes.as_slice()),
-        bytes: state.bytes.len() as u64,
-    })
-}
-
-fn lines(bytes: &[u8]) -> u64 {
-    let mut count = 0u64;
-    for byte in bytes {
-        if *byte == b'\n' {
-            count = count.saturating_add(1);
-        }
-    }
-    count
-}
-
-/// How many rows state bytes say that they have: behind the mark and the version.
-fn rows_in(state: &[u8]) -> u64 {
-    match state {
-        [_, _, _, _, _, a, b, c, d, e, f, g, h, ..] => {
-            u64::from_be_bytes([*a, *b, *c, *d, *e, *f, *g, *h])
-        }
-        _ => 0,
-    }
-}
-
 impl Standing {
     /// The counts in the text form that Prometheus reads.
-    pub(crate) fn metrics(&self, alloc: Global, board: &mut CachedTable) -> Result<String, Memory>
+    pub(crate) fn metrics(
+        &self,
+        alloc: Global,
+        board: &mut CachedTable,
+        limit: usize,
+    ) -> Result<String, Memory>
         ensures same { board.new ≡ board.old }
     {
-        let counts = counts_of(board)?;
+        let counts = board.counts(limit)?;
         let mut text = String::new(alloc);
         add_counts(&mut text, &counts)?;
+        self.add_limit(&mut text, board.sizes(), limit)?;
         self.add_connections(&mut text)?;
         self.add_pieces(&mut text)?;
         self.add_refusals(&mut text)?;
@@ -86,6 +44,48 @@ impl Standing {
             "cuestored_connections_turned_away_total",
             "Connections closed as too many.",
             self.turned_away,
+        )
+    }
+
+    /// The limit of answers, and how long they were.
+    fn add_limit(
+        &self,
+        text: &mut String,
+        sizes: &AnswerSizes,
+        limit: usize,
+    ) -> Result<(), Memory> {
+        gauge(
+            text,
+            "cuestored_answer_limit_bytes",
+            "The most bytes of an answer about the table.",
+            limit as u64,
+        )?;
+        write_head(
+            text,
+            "cuestored_answer_bytes",
+            "Bytes of the answer that was made last.",
+            "gauge",
+        )?;
+        for (name, size) in [
+            ("export", sizes.export),
+            ("print", sizes.print),
+            ("report", sizes.report),
+            ("state", sizes.state),
+        ] {
+            write!(text, "cuestored_answer_bytes{{path=\"/{name}\"}} {size}\n")?;
+        }
+        let half = (limit / 2) as u64;
+        gauge(
+            text,
+            "cuestored_answers_near_limit",
+            "1 where an answer has more than half as many bytes as the limit, else 0.",
+            u64::from(sizes.longest().1 > half),
+        )?;
+        counter(
+            text,
+            "cuestored_pieces_over_limit_total",
+            "Pieces refused, since with them an answer would have more bytes than the limit.",
+            self.over_limit,
         )
     }
 
@@ -210,7 +210,7 @@ impl Standing {
     }
 }
 
-fn add_counts(text: &mut String, counts: &Counts) -> Result<(), Memory> {
+fn add_counts(text: &mut String, counts: &TableCounts) -> Result<(), Memory> {
     gauge(
         text,
         "cuestored_conflicts",

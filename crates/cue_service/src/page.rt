@@ -2,17 +2,22 @@ ghost use Rattle.std.specs.Prelude.{◌≡◌, IfOk, OnOk, string_bytes};
 ghost use Rattle.cue_service.specs.Pages.{IsPage};
 
 use crate::board::CachedTable;
+use crate::kept::KeptAnswer;
 use crate::markup::{Markup, add_markup, add_text};
 use crate::standing::{SourceStanding, Standing};
 use cue_lattice::Memory;
 use cue_replica::{SiteQuestion, Status};
 use std::alloc::Global;
 
+/// What stands in the place of an answer that is over the limit.
+const OVER_LIMIT: &[u8] = b"over the limit of answers\n";
+
 /// One page for a person: what conflicts and what is incomplete, the printed text, and the other
 /// sites.
 pub(crate) fn page(
     alloc: Global,
     board: &mut CachedTable,
+    limit: usize,
     standing: &Standing,
 ) -> Result<String, Memory>
     ensures page { IfOk result (λ text. IsPage (string_bytes text)) }
@@ -20,10 +25,10 @@ pub(crate) fn page(
 {
     let mut text = String::new(alloc);
     add_markup(&mut text, Markup::Head)?;
-    add_faults(&mut text, board)?;
-    let print = board.answer_to(SiteQuestion::Print)?;
+    add_faults(&mut text, board, limit)?;
+    let print = board.answer_within(SiteQuestion::Print, limit)?;
     add_markup(&mut text, Markup::Known)?;
-    add_text(&mut text, print.bytes.as_slice())?;
+    add_answer(&mut text, &print)?;
     add_markup(&mut text, Markup::EndOfLines)?;
     add_markup(&mut text, Markup::Peers)?;
     add_peers(alloc, &mut text, standing)?;
@@ -31,15 +36,27 @@ pub(crate) fn page(
     Ok(text)
 }
 
+/// An answer, or that it is over the limit.
+fn add_answer(text: &mut String, told: &Option<KeptAnswer>) -> Result<(), Memory>
+    ensures { OnOk result (IsPage (string_bytes text.old) → IsPage (string_bytes text.new)) }
+{
+    match told {
+        Some(told) => add_text(text, told.bytes.as_slice()),
+        None => add_text(text, OVER_LIMIT),
+    }
+}
+
 /// What conflicts, and what is incomplete.
-fn add_faults(text: &mut String, board: &mut CachedTable) -> Result<(), Memory>
+fn add_faults(text: &mut String, board: &mut CachedTable, limit: usize) -> Result<(), Memory>
     ensures page { OnOk result (IsPage (string_bytes text.old) → IsPage (string_bytes text.new)) }
     ensures same { board.new ≡ board.old }
 {
-    let export = board.answer_to(SiteQuestion::Export)?;
-    let report = board.answer_to(SiteQuestion::Report)?;
-    let conflicts = match export.status {
-        Status::Conflicts => export.bytes.len(),
+    let export = board.answer_within(SiteQuestion::Export, limit)?;
+    let Some(report) = board.answer_within(SiteQuestion::Report, limit)? else {
+        return add_lines(text, Markup::Incomplete, OVER_LIMIT);
+    };
+    let conflicts = match &export {
+        Some(told) if told.status == Status::Conflicts => told.bytes.len(),
         _ => 0,
     };
     let report_bytes = report.bytes.as_slice();

@@ -1,11 +1,12 @@
-ghost use Rattle.std.specs.Prelude.{◌≡◌, [], ◌∷◌, OnOk};
+ghost use Rattle.std.specs.Prelude.{◌≡◌, [], ◌∷◌, codes, OnOk};
 ghost use Rattle.http_server.specs.Response.{IsBlank};
 ghost use Rattle.cue_service.specs.Statuses.{HasHead, plain_text, status_of_refusal, type_field};
 
-use crate::responses::answer_body;
+use crate::responses::{answer_body, answer_tagged};
 use bytes::Bytes;
 use cue_lattice::{Kind, Memory, Refusal};
-use http::StatusCode;
+use cue_replica::SiteQuestion;
+use http::{HeaderValue, StatusCode};
 use http_server::Response;
 use std::alloc::Global;
 use std::io;
@@ -43,6 +44,50 @@ pub(crate) fn answer_no_room(
     let body = Bytes::from_string(line)?;
     let status = StatusCode::INSUFFICIENT_STORAGE;
     answer_body(response, status, "text/plain; charset=utf-8", body)
+}
+
+/// Answers that a piece is refused, since with it an answer would have more bytes than the limit.
+pub(crate) fn answer_over_limit(
+    alloc: Global,
+    question: SiteQuestion,
+    limit: usize,
+    response: &mut Response,
+) -> Result<(), Memory>
+    requires { IsBlank response.old }
+    ensures { OnOk result (HasHead 413 (type_field plain_text ∷ []) response.new) }
+{
+    let path = path_of(question);
+    let line = format!(in alloc; "too large: with it {path} would have more than {limit} bytes\n")?;
+    let body = Bytes::from_string(line)?;
+    let status = StatusCode::PAYLOAD_TOO_LARGE;
+    answer_body(response, status, "text/plain; charset=utf-8", body)
+}
+
+/// Answers that an answer about a table, which has this tag, has more bytes than the limit.
+pub(crate) fn answer_not_given(
+    alloc: Global,
+    limit: usize,
+    tag: HeaderValue,
+    response: &mut Response,
+) -> Result<(), Memory>
+    requires { IsBlank response.old }
+    ensures { OnOk result (HasHead 507 ((codes "etag", tag.bytes) ∷ type_field plain_text ∷ []) response.new) }
+{
+    let line = format!(in alloc; "too large: the answer has more than {limit} bytes\n")?;
+    let body = Bytes::from_string(line)?;
+    let status = StatusCode::INSUFFICIENT_STORAGE;
+    let kind = HeaderValue::from_static("text/plain; charset=utf-8");
+    answer_tagged(response, status, tag, kind, body)
+}
+
+/// Where the answer to a question is read.
+pub(crate) fn path_of(question: SiteQuestion) -> &'static str {
+    match question {
+        SiteQuestion::Export => "/export",
+        SiteQuestion::Print => "/print",
+        SiteQuestion::Report => "/report",
+        SiteQuestion::State => "/state",
+    }
 }
 
 fn refusal_code(kind: Kind) -> StatusCode

@@ -11,9 +11,9 @@ ghost use Rattle.cue_service.specs.Listing.{AreListed};
 ghost use Rattle.cue_service.specs.Tags.{tag_of};
 ghost use Rattle.cue_service.specs.Pulls.{CoversPiece, CoversAll, IsOfListed};
 
-use crate::access::AccessToken;
 use crate::desk::SiteCore;
 use crate::route::{Route, route_of, seconds_in};
+use crate::rules::SiteRules;
 use crate::snapshots::Snapshots;
 use crate::standing::Standing;
 use bytes::Bytes;
@@ -91,7 +91,7 @@ impl<D: Disk> Site<D> {
         files: JournalPair<D>,
         snapshot: usize,
         board: Replica,
-        token: Option<AccessToken>,
+        rules: SiteRules,
         standing: Standing,
         run: u64,
     ) -> Site<D>
@@ -103,13 +103,13 @@ impl<D: Disk> Site<D> {
         ensures listed { AreListed [] result.desk.pieces }
         // Its run has the number that it is given.
         ensures run { result.desk.pieces.run ≡ run }
-        // And it wants the token that it is given.
-        ensures token { result.desk.token ≡ token }
+        // And it has the rules that it is given.
+        ensures rules { result.desk.rules ≡ rules }
         // Its files are those that it is given.
         ensures files { result.files ≡ files }
     {
         Site {
-            desk: SiteCore::new(alloc, board, token, standing, run),
+            desk: SiteCore::new(alloc, board, rules, standing, run),
             files,
             snapshots: Snapshots::new(snapshot),
             fault: None,
@@ -251,6 +251,8 @@ impl<D: Disk> Gathers for Site<D> {
     ghost pulls_pieces = { λ old bytes _ new.
         GathersPiecesAt D.Disk.seen D.Disk.may_leave (pieces_of (recovered_pieces bytes)) old new };
 
+    ghost pulls_layers = { λ old _ _ new. new ≡ old };
+
     ghost rests = { IsSiteUntouched };
 
     /// Takes the state of another site, unless it brings nothing.
@@ -276,6 +278,16 @@ impl<D: Disk> Gathers for Site<D> {
             return false;
         }
         self.desk.gather_pieces(bytes)
+    }
+
+    /// It keeps no layers.
+    fn has_layers(&self) -> bool {
+        false
+    }
+
+    /// Joins nothing, since it keeps no layers.
+    fn pull_layers(&mut self, _bytes: &[u8]) -> bool {
+        false
     }
 
     /// How many seconds the one waits who asks with `?wait=SECONDS` and has the table.

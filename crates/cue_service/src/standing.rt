@@ -1,6 +1,9 @@
+use crate::refusal::path_of;
 use crate::shown::Shown;
+use crate::sizes::AnswerSizes;
 use cue_lattice::Kind;
-use cue_rounds::News;
+use cue_replica::SiteQuestion;
+use cue_rounds::{News, SourceFailure};
 use http::StatusCode;
 use log::{Log, info, warn};
 use std::alloc::Global;
@@ -21,6 +24,10 @@ pub struct SourceStanding {
     pub failures: u64,
     /// The last question failed.
     pub failing: bool,
+    /// Why it failed, where it did.
+    failure: Option<SourceFailure>,
+    /// Why the last question for its layers failed, where it did.
+    layers_failure: Option<SourceFailure>,
 }
 
 impl SourceStanding {
@@ -31,6 +38,8 @@ impl SourceStanding {
             last: None,
             failures: 0,
             failing: false,
+            failure: None,
+            layers_failure: None,
         }
     }
 }
@@ -39,14 +48,36 @@ impl SourceStanding {
 #[derive(Clone, Copy)]
 enum Note {
     Refused(Kind, u64),
-    Failing(usize),
+    Failing(usize, SourceFailure),
     Answering(usize),
+    LayersFailing(usize, SourceFailure),
+    LayersAnswering(usize),
     Forgotten(usize),
     Condensed(usize),
     NoSnapshot(io::Error),
     NoRoom(io::Error),
     Room,
     TooLong(u64),
+    OverLimit(SiteQuestion),
+    NearLimit(SiteQuestion, u64, Bringer),
+}
+
+/// Who brought the last piece.
+#[derive(Clone, Copy)]
+enum Bringer {
+    Files,
+    Client,
+    Peer,
+}
+
+impl Bringer {
+    fn name(self) -> &'static str {
+        match self {
+            Bringer::Files => "the files",
+            Bringer::Client => "a POST",
+            Bringer::Peer => "a peer",
+        }
+    }
 }
 
 /// Counts of what came, for the answers of the site about itself.
@@ -69,6 +100,11 @@ pub struct Standing {
     pub(crate) journal: usize,
     /// Writes that were refused, since the disk had no room.
     pub(crate) without_room: u64,
+    /// Pieces refused, since with them an answer would have more bytes than the limit.
+    pub(crate) over_limit: u64,
+    /// An answer has more than half as many bytes as the limit.
+    pub(crate) near_limit: bool,
+    brought_by: Bringer,
     /// Why the disk had no room for the last piece, until one is accepted.
     pub(crate) no_room: Option<io::Error>,
     notes: Vec<Note>,
@@ -91,6 +127,9 @@ impl Standing {
             snapshots: 0,
             journal: 0,
             without_room: 0,
+            over_limit: 0,
+            near_limit: false,
+            brought_by: Bringer::Files,
             no_room: None,
             notes: Vec::new(alloc),
         }
@@ -104,16 +143,19 @@ impl Standing {
 
     pub(crate) fn note_taken(&mut self) {
         self.note_room();
+        self.brought_by = Bringer::Client;
         self.taken = self.taken.saturating_add(1);
     }
 
     pub(crate) fn note_gathered(&mut self) {
         self.note_room();
+        self.brought_by = Bringer::Peer;
         self.gathered = self.gathered.saturating_add(1);
     }
 
     pub(crate) fn note_gathered_piece(&mut self) {
         self.note_room();
+        self.brought_by = Bringer::Peer;
         self.gathered_pieces = self.gathered_pieces.saturating_add(1);
     }
 
@@ -164,6 +206,22 @@ impl Standing {
         self.note(Note::TooLong(size));
     }
 
+    /// A piece was refused, since with it the answer to a question would have more bytes than the limit.
+    pub(crate) fn note_over_limit(&mut self, question: SiteQuestion) {
+        self.over_limit = self.over_limit.saturating_add(1);
+        self.note(Note::OverLimit(question));
+    }
+
+    /// Notes how long the answers were that were made last.
+    pub(crate) fn note_sizes(&mut self, sizes: &AnswerSizes, limit: usize) {
+        let (question, size) = sizes.longest();
+        let is_near = size > (limit / 2) as u64;
+        if is_near && !self.near_limit {
+            self.note(Note::NearLimit(question, size, self.brought_by));
+        }
+        self.near_limit = is_near;
+    }
+
     pub(crate) fn note_grown(&mut self, journal: usize) {
         self.journal = journal;
     }
@@ -181,8 +239,10 @@ impl Standing {
                 self.turned_away = turned_away;
             }
             News::Answered(number) => self.note_answered(number),
-            News::Failed(number) => self.note_failed(number),
+            News::Failed(number, why) => self.note_failed(number, why),
             News::Forgotten(number) => self.note(Note::Forgotten(number)),
+            News::LayersAnswered(number) => self.note_layers_answered(number),
+            News::LayersFailed(number, why) => self.note_layers_failed(number, why),
         }
     }
 
@@ -193,21 +253,44 @@ impl Standing {
             was_failing = source.failing || source.last.is_none();
             source.last = Some(now);
             source.failing = false;
+            source.failure = None;
         }
         if was_failing {
             self.note(Note::Answering(number));
         }
     }
 
-    fn note_failed(&mut self, number: usize) {
-        let mut was_well = false;
+    fn note_failed(&mut self, number: usize, why: SourceFailure) {
+        let mut is_new = false;
         if let Some(source) = self.sources.get_mut(number) {
-            was_well = !source.failing;
+            is_new = source.failure != Some(why);
             source.failures = source.failures.saturating_add(1);
             source.failing = true;
+            source.failure = Some(why);
         }
-        if was_well {
-            self.note(Note::Failing(number));
+        if is_new {
+            self.note(Note::Failing(number, why));
+        }
+    }
+
+    fn note_layers_answered(&mut self, number: usize) {
+        let mut was_failing = false;
+        if let Some(source) = self.sources.get_mut(number) {
+            was_failing = source.layers_failure.take().is_some();
+        }
+        if was_failing {
+            self.note(Note::LayersAnswering(number));
+        }
+    }
+
+    fn note_layers_failed(&mut self, number: usize, why: SourceFailure) {
+        let mut is_new = false;
+        if let Some(source) = self.sources.get_mut(number) {
+            is_new = source.layers_failure != Some(why);
+            source.layers_failure = Some(why);
+        }
+        if is_new {
+            self.note(Note::LayersFailing(number, why));
         }
     }
 
@@ -218,8 +301,14 @@ impl Standing {
                 Note::Refused(kind, place) => {
                     warn!(log; "refused {} {} at {}", kind.number(), kind.name(), place)
                 }
-                Note::Failing(number) =>
-                    warn!(log; "source {} does not answer", Shown(self.name_of(*number))),
+                Note::Failing(number, why) =>
+                    warn!(log; "source {} failed: {}", Shown(self.name_of(*number)), why),
+                Note::LayersFailing(number, why) => {
+                    warn!(log; "source {}, asked for its layers, failed: {}", Shown(self.name_of(*number)), why)
+                }
+                Note::LayersAnswering(number) => {
+                    info!(log; "source {}, asked for its layers, answers", Shown(self.name_of(*number)))
+                }
                 Note::Answering(number) =>
                     info!(log; "source {} answers", Shown(self.name_of(*number))),
                 Note::Forgotten(number) => {
@@ -233,6 +322,12 @@ impl Standing {
                     warn!(log; "no room for pieces, and none is accepted until there is: {error}")
                 }
                 Note::Room => info!(log; "there is room for pieces again"),
+                Note::OverLimit(question) =>
+                    warn!(log; "refused a piece with which {} would be over the limit", path_of(*question)),
+                Note::NearLimit(question, size, bringer) => {
+                    let (path, name) = (path_of(*question), bringer.name());
+                    warn!(log; "{path} has {size} bytes, more than half of the limit; the last piece came of {name}")
+                }
                 Note::TooLong(bytes) => {
                     warn!(log; "no snapshot of a state of {bytes} bytes: an entry has less than 4 GiB")
                 }

@@ -3,8 +3,8 @@ ghost use Rattle.cue_replica.specs.Accepted.{IsOfPieces};
 ghost use Rattle.cue_service.specs.Entries.{pieces_of};
 ghost use Rattle.cue_service.specs.Starts.{IsCleanSite, IsStartedSite};
 
-use crate::access::AccessToken;
 use crate::entries::{add_entries, snapshot_in};
+use crate::rules::SiteRules;
 use crate::site::Site;
 use crate::standing::Standing;
 use cue_journal::{FileNumber, StartedPair, Unread, start_pair};
@@ -42,14 +42,14 @@ pub fn start_site<D: Disk + Drop>(
     alloc: Global,
     first: D,
     second: D,
-    token: Option<AccessToken>,
+    rules: SiteRules,
     standing: Standing,
     run: u64,
 ) -> Result<Site<D>, StartError>
     requires first { IsTrue (D.Disk.is_usable first) }
     requires second { IsTrue (D.Disk.is_usable second) }
     ensures { IfOk result (λ site. IsCleanSite D.Disk.is_clean site
-        → IsStartedSite D.Disk.seen D.Disk.may_leave first second token run site) }
+        → IsStartedSite D.Disk.seen D.Disk.may_leave first second rules run site) }
 {
     let StartedPair {
         files,
@@ -64,5 +64,5 @@ pub fn start_site<D: Disk + Drop>(
         Err(why) => return Err(StartError::Entry(why)),
     };
     let snapshot = snapshot_in(&growing);
-    Ok(Site::new(alloc, files, snapshot, table, token, standing, run))
+    Ok(Site::new(alloc, files, snapshot, table, rules, standing, run))
 }

@@ -2,12 +2,12 @@
 
 use crate::journals::journal_on;
 use bytes::{Buf, Bytes};
-use cue_http::{Gathers, News};
+use cue_http::{Gathers, News, SourceFailure};
 use cue_journal::{BlockError, JournalPair};
-use cue_replica::Replica;
+use cue_replica::{Replica, SiteQuestion};
 use cue_service::{
-    AccessToken, Shown, Site, SiteCore, SourceStanding, Standing, add_entries, is_hidden,
-    snapshot_in, start_site,
+    AccessToken, Shown, Site, SiteCore, SiteRules, SourceStanding, Standing, add_entries,
+    answer_within, has_tag, is_hidden, matches_tag, snapshot_in, start_site,
 };
 use http::Request;
 use http_server::{Response, Settle};
@@ -19,8 +19,21 @@ use std::test::Fail;
 /// The number of the run of each site.
 const RUN: u64 = 7;
 
+/// Rules with the limit of answers that is usual.
+fn rules(token: Option<AccessToken>) -> SiteRules {
+    SiteRules {
+        token,
+        limit: 64 * 1024 * 1024,
+    }
+}
+
 /// A site that has accepted nothing, with one peer.
 pub fn new_site(alloc: Global, word: Option<AccessToken>) -> Result<Site<Memory>, Fail> {
+    site_with(alloc, rules(word))
+}
+
+/// The same with these rules.
+fn site_with(alloc: Global, rules: SiteRules) -> Result<Site<Memory>, Fail> {
     let mut sources = Vec::new(alloc);
     sources.push(SourceStanding::new(String::from_str(alloc, "peer")?))?;
     let files = JournalPair::new(
@@ -28,7 +41,7 @@ pub fn new_site(alloc: Global, word: Option<AccessToken>) -> Result<Site<Memory>
         journal_on(alloc, Memory::new(alloc))?,
     );
     let standing = Standing::new(alloc, sources);
-    Ok(Site::new(alloc, files, 0, Replica::new(alloc), word, standing, RUN))
+    Ok(Site::new(alloc, files, 0, Replica::new(alloc), rules, standing, RUN))
 }
 
 /// A method and a path, a body, and the status and the first bytes of the answer.
@@ -107,7 +120,7 @@ fn a_site_starts_over_two_files(rt: HostRuntime) -> Result<(), Fail> {
         return Ok(());
     }
     let standing = Standing::new(rt.alloc(), Vec::new(rt.alloc()));
-    let Ok(mut site) = start_site(rt.alloc(), one, other, None, standing, RUN) else {
+    let Ok(mut site) = start_site(rt.alloc(), one, other, rules(None), standing, RUN) else {
         return Err(std::io::Error::from(std::io::ErrorKind::InvalidData).into());
     };
     let row: Row = ("POST /fragments", b"a: 1\n", 204, b"");
@@ -128,7 +141,7 @@ fn site_behind(alloc: Global, snapshot: usize) -> Result<Site<Memory>, Fail> {
         files,
         snapshot,
         Replica::new(alloc),
-        None,
+        rules(None),
         standing,
         RUN,
     ))
@@ -296,12 +309,15 @@ fn gathers(site: &mut Site<Memory>, state: &[u8]) -> bool {
     for news in [
         News::Now(7),
         News::Answered(0),
-        News::Failed(0),
+        News::Failed(0, SourceFailure::Status(503)),
         News::Forgotten(0),
+        News::LayersAnswered(0),
+        News::LayersFailed(0, SourceFailure::TooLong),
     ] {
         site.note_news(news);
     }
-    taken && pieces && site.tag().is_some() && site.fault().kind() == ErrorKind::Other
+    let layerless = !site.has_layers() && !site.pull_layers(b"layers");
+    taken && pieces && layerless && site.tag().is_some() && site.fault().kind() == ErrorKind::Other
 }
 
 #[test]
@@ -323,10 +339,123 @@ fn entries_are_taken_in(rt: HostRuntime) -> Result<(), Fail> {
     let desk = SiteCore::new(
         rt.alloc(),
         board,
-        None,
+        rules(None),
         Standing::new(rt.alloc(), Vec::new(rt.alloc())),
         RUN,
     );
     drop(desk);
+    Ok(())
+}
+
+/// Answers of at most 300 bytes. A piece is refused with which an answer would have more.
+const LIMITED: &[Row] = &[
+    ("POST /fragments", b"a: 1\n", 204, b""),
+    ("GET /export", b"", 200, b"{\"a\":1}"),
+    (
+        "POST /fragments",
+        b"x: [_, _, _, _, _, _, _, _, _, _, _, _, _, _, _, _]\n",
+        413,
+        b"too large: with it /report",
+    ),
+    ("GET /export", b"", 200, b"{\"a\":1}"),
+    ("POST /fragments", b"b: 2\n", 204, b""),
+    ("GET /export", b"", 200, b"{\"a\":1,\"b\":2}"),
+];
+
+/// What another site brings is unified all the same, and then no answer has more bytes than the limit.
+const BEYOND: &[Row] = &[
+    (
+        "GET /report",
+        b"",
+        507,
+        b"too large: the answer has more than 300 bytes\n",
+    ),
+    (
+        "GET /report",
+        b"",
+        507,
+        b"too large: the answer has more than 300 bytes\n",
+    ),
+    (
+        "GET /export",
+        b"",
+        507,
+        b"too large: the answer has more than 300 bytes\n",
+    ),
+    ("GET /print", b"", 200, b"\"a\": 1"),
+    ("GET /metrics", b"", 200, b"# HELP"),
+    ("GET /", b"", 200, b"<!doctype html>"),
+    (
+        "POST /fragments",
+        b"c: 3\n",
+        413,
+        b"too large: with it /report",
+    ),
+];
+
+#[test]
+fn no_answer_is_over_the_limit(rt: HostRuntime) -> Result<(), Fail> {
+    let limited = SiteRules {
+        token: None,
+        limit: 300,
+    };
+    let mut site = site_with(rt.alloc(), limited)?;
+    assert!(rt; answers_all(rt.alloc(), &mut site, LIMITED)?);
+    let state = state_of(
+        rt.alloc(),
+        "x: [_, _, _, _, _, _, _, _, _, _, _, _, _, _, _, _]\n",
+    )?;
+    assert!(rt; site.pull_state(&state));
+    assert!(rt; answers_all(rt.alloc(), &mut site, BEYOND)?);
+    site.report(&rt);
+    Ok(())
+}
+
+#[test]
+fn an_answer_is_made_up_to_a_limit(rt: HostRuntime) -> Result<(), Fail> {
+    let mut board = Replica::new(rt.alloc());
+    assert!(rt; board.submit("a: 1").is_ok());
+    for question in [
+        SiteQuestion::Export,
+        SiteQuestion::Print,
+        SiteQuestion::State,
+    ] {
+        let Some(answer) = answer_within(rt.alloc(), question, &board, 1000)? else {
+            return Err(std::io::Error::from(ErrorKind::InvalidData).into());
+        };
+        let length = answer.bytes.len();
+        assert!(rt; answer_within(rt.alloc(), question, &board, length)?.is_some());
+        assert!(rt; answer_within(rt.alloc(), question, &board, length - 1)?.is_none());
+    }
+    Ok(())
+}
+
+/// The fields that name tags, and whether a request with them has the tag `"x"`, and matches it.
+const TAGS: &[(&str, bool, bool)] = &[
+    ("\"x\"", true, true),
+    ("W/\"x\"", true, false),
+    ("*", true, true),
+    ("\"a\", W/\"b\" ,\t\"x\"", true, true),
+    ("\"a\",W/\"x\",", true, false),
+    ("\"a,\", \"xx\"", false, false),
+    ("\"X\"", false, false),
+    ("x", false, false),
+    ("\"x\"\"x\"", false, false),
+    ("", false, false),
+];
+
+#[test]
+fn tags_are_compared(rt: HostRuntime) -> Result<(), Fail> {
+    for (field, has, matches) in TAGS {
+        let known = Request::builder(rt.alloc())
+            .header("if-none-match", *field)
+            .body(Bytes::new())?;
+        let change = Request::builder(rt.alloc())
+            .header("if-match", *field)
+            .body(Bytes::new())?;
+        assert!(rt; has_tag(&known, b"\"x\"") == *has);
+        assert!(rt; matches_tag(&change, b"\"x\"") == *matches);
+        assert!(rt; !has_tag(&change, b"\"x\"") && matches_tag(&known, b"\"x\""));
+    }
     Ok(())
 }

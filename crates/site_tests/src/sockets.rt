@@ -5,6 +5,7 @@ use crate::sites::new_site;
 use cue_http::{Bounds, PullSource, serve};
 use http_server::Config;
 use mio::net::TcpListener;
+use std::alloc::{AllocError, Global};
 use std::io;
 use std::io::{Read, Write};
 use std::net::{Ipv4Addr, Net, Shutdown, SocketAddr, TcpStream};
@@ -12,10 +13,8 @@ use std::test::Fail;
 use std::time::Duration;
 
 /// A site that is not there.
-fn nobody() -> PullSource {
-    PullSource {
-        at: SocketAddr::from((Ipv4Addr::LOCALHOST, 1)),
-    }
+fn nobody(alloc: Global) -> Result<PullSource, AllocError> {
+    PullSource::of_address(alloc, SocketAddr::from((Ipv4Addr::LOCALHOST, 1)))
 }
 
 /// So many rounds are served: each is over as soon as something came.
@@ -64,7 +63,18 @@ fn requests_are_answered(rt: HostRuntime) -> Result<(), Fail> {
     let posting = sent(&rt, address, POST)?;
     let asking = sent(&rt, address, EXPORT)?;
     let site = new_site(rt.alloc(), None)?;
-    assert!(rt; serve(&rt, &rt, listener, bounds(), &[nobody()], site, ROUNDS).is_ok());
+    assert!(rt;
+        serve(
+            &rt,
+            &rt,
+            listener,
+            bounds(),
+            &[nobody(rt.alloc())?],
+            site,
+            ROUNDS
+        )
+        .is_ok()
+    );
     assert!(rt; ends(&rt, &posting, b"204 No Content\r\n\r\n")?);
     assert!(rt; ends(&rt, &asking, b"{\"a\":1}")?);
     assert!(rt; ends(&rt, &waiting, b"{\"a\":1}")?);
@@ -117,9 +127,7 @@ const KNOWN: &[u8] =
 fn a_source_is_asked_with_the_tag_of_the_table(rt: HostRuntime) -> Result<(), Fail> {
     let listener = TcpListener::bind(&rt, SocketAddr::from((Ipv4Addr::LOCALHOST, 0)))?;
     let peer = std::net::TcpListener::bind(&rt, SocketAddr::from((Ipv4Addr::LOCALHOST, 0)))?;
-    let source = PullSource {
-        at: peer.local_addr()?,
-    };
+    let source = PullSource::of_address(rt.alloc(), peer.local_addr()?)?;
     let site = new_site(rt.alloc(), None)?;
     assert!(rt; serve(&rt, &rt, listener, bounds(), &[source], site, ROUNDS).is_ok());
     let (stream, _) = peer.accept()?;

@@ -16,5 +16,5 @@ returns g c = λ clean.
     (subst (λ f. IsTrue (g.D.Disk.is_clean (disk_of (growing_of f)))) c.new.ensures.files clean.1) in
     let one = subst (λ (xs : List (Vec ℕ Global)). IsOfPieces table (pieces_of (map f xs ++ map f c.deref-2.result.now))) c.deref.ensures.value c.in-Ok-table_of.ensures in
     let of = subst (λ (xs : List (Vec ℕ Global)). IsOfPieces table (pieces_of (map f c.in-Ok.started.spare.items ++ map f xs))) c.deref-2.ensures.value one in
-    site_started g.D.Disk.seen g.D.Disk.may_leave c.args.first c.args.second c.args.token c.args.run c.new.result _ _ _ table
-    started of c.new.ensures.consistent c.new.ensures.listed c.new.ensures.run c.new.ensures.token
+    site_started g.D.Disk.seen g.D.Disk.may_leave c.args.first c.args.second c.args.rules c.args.run c.new.result _ _ _ table
+    started of c.new.ensures.consistent c.new.ensures.listed c.new.ensures.run c.new.ensures.rules

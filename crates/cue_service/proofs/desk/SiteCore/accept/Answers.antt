@@ -13,7 +13,7 @@ same_bytes hands.State bytes = refl
 
 pub returns-in-Ok-clause-ok : goal.returns-in-Ok-clause-ok
 returns-in-Ok-clause-ok c = record {
-  token = refl;
+  rules = refl;
   acceptable = c.in-Ok.ensures.acceptable;
   fits = omega (arith, c.in_ok-queue.ensures.fits, ap length (same_bytes c.args.hand c.args.bytes.now));
   adds = c.in-Ok.ensures.adds;

@@ -6,4 +6,4 @@ use Rattle.cue_service.proofs.desk.SiteCore.gather_pieces.Goals as goal
 pub returns-in-Err-clause-gathers : goal.returns-in-Err-clause-gathers
 returns-in-Err-clause-gathers c =
     let same = c.in-Err.ensures.err in
-    gathers_none (pieces_of (recovered_pieces c.args.bytes.now)) c.args.self.now _ (record { token = same.token; table = same.table; waits = same.waits; pieces = same.pieces })
+    gathers_none (pieces_of (recovered_pieces c.args.bytes.now)) c.args.self.now _ (record { rules = same.rules; table = same.table; waits = same.waits; pieces = same.pieces })

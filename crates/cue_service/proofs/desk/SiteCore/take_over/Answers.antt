@@ -15,7 +15,7 @@ returns-clause-ok c =
     subst (λ (t : Table). BringsState c.args.bytes.now c.args.self.now.board t) (sym c.replace.ensures)
     (subst (λ (t : Table). BringsState c.args.bytes.now t c.in-Some.next) c.table.ensures next) in
     inl (record {
-      token = refl;
+      rules = refl;
       acceptable = brings.is_state;
       fits = omega (arith, c.in_ok-queue.ensures.fits);
       adds = brings.adds;

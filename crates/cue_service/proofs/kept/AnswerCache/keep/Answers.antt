@@ -1,12 +1,12 @@
 use Rattle.std.proofs.Common.{subst}
 use Rattle.cue_replica.specs.declared.question.SiteQuestion.{SiteQuestion}
-use Rattle.cue_service.specs.Kept.{IsKeptAnswer}
+use Rattle.cue_service.specs.Kept.{IsCachedAnswer}
 use Rattle.cue_service.proofs.kept.AnswerCache.keep.Goals as goal
 
 pub returns-in-Export : goal.returns-in-Export
 returns-in-Export c = λ table kept told. record {
   tag = kept.tag;
-  export = subst (λ (q : SiteQuestion). IsKeptAnswer q table c.args.told) c.in-Export.is told;
+  export = subst (λ (q : SiteQuestion). IsCachedAnswer q table c.args.told) c.in-Export.is told;
   print = kept.print;
   report = kept.report;
   state = kept.state;
@@ -16,7 +16,7 @@ pub returns-in-Print : goal.returns-in-Print
 returns-in-Print c = λ table kept told. record {
   tag = kept.tag;
   export = kept.export;
-  print = subst (λ (q : SiteQuestion). IsKeptAnswer q table c.args.told) c.in-Print.is told;
+  print = subst (λ (q : SiteQuestion). IsCachedAnswer q table c.args.told) c.in-Print.is told;
   report = kept.report;
   state = kept.state;
 }
@@ -26,7 +26,7 @@ returns-in-Report c = λ table kept told. record {
   tag = kept.tag;
   export = kept.export;
   print = kept.print;
-  report = subst (λ (q : SiteQuestion). IsKeptAnswer q table c.args.told) c.in-Report.is told;
+  report = subst (λ (q : SiteQuestion). IsCachedAnswer q table c.args.told) c.in-Report.is told;
   state = kept.state;
 }
 
@@ -36,5 +36,5 @@ returns-in-State c = λ table kept told. record {
   export = kept.export;
   print = kept.print;
   report = kept.report;
-  state = subst (λ (q : SiteQuestion). IsKeptAnswer q table c.args.told) c.in-State.is told;
+  state = subst (λ (q : SiteQuestion). IsCachedAnswer q table c.args.told) c.in-State.is told;
 }
