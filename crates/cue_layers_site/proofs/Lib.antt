@@ -1,7 +1,9 @@
-pub mod Changing
+pub mod Puts
 pub mod Condensing
+pub mod Fitting
 pub mod Joins
 pub mod Kept
+pub mod Listed
 pub mod Opening
 pub mod Outcomes
 pub mod Rounds

@@ -83,12 +83,12 @@ module _ {D : Type 0} (seen : D → List ℕ) (may_leave : D → List ℕ → Ty
       → AnswersAs seen may_leave route commons access old request response new → Moves old request response new
   moves (Put kind) commons access old new request response asks (inl done) =
       put_moves kind (done.1.0 ∷ []) old new request response (Put kind) asks done.1.2 (λ layer is. (done.1.2.name, done.1.0, layer, done.1.2.names, done.1.1, is, refl))
-  moves (Put kind) commons access old new request response asks (inr other) = otherwise_moves old new request response other
+  moves (Put kind) commons access old new request response asks (inr other) = same_moves old new request response other.same (λ route asks may. other.other)
   moves (Remove kind) commons access old new request response asks (inl done) =
       put_moves kind [] old new request response (Remove kind) asks done.1 (λ layer is. (done.1.name, layer, done.1.names, is, refl))
-  moves (Remove kind) commons access old new request response asks (inr other) = otherwise_moves old new request response other
+  moves (Remove kind) commons access old new request response asks (inr other) = same_moves old new request response other.same (λ route asks may. other.other)
   moves Join commons access old new request response asks (inl done) = join_moves old new request response asks done.1
-  moves Join commons access old new request response asks (inr other) = otherwise_moves old new request response other
+  moves Join commons access old new request response asks (inr other) = same_moves old new request response other.same (λ route asks may. other.other)
   moves (Names kind) commons access old new request response asks other = otherwise_moves old new request response other
   moves (Show kind) commons access old new request response asks other = otherwise_moves old new request response other
   moves (View question) commons access old new request response asks told =
@@ -103,7 +103,8 @@ module _ {D : Type 0} (seen : D → List ℕ) (may_leave : D → List ℕ → Ty
       same_moves old new request response wanting.0 (λ other is may done. absurd (omega (arith, sym wanting.1.status ∙ done)))
 
   pub pulled : ArePulled seen may_leave
-  pulled old new bytes true on_disk before pulls = added_kept seen may_leave old new on_disk pulls.0 pulls.2 before
+  pulled old new bytes true on_disk before (more, is, inl added) = added_kept seen may_leave old new on_disk more added before
+  pulled old new bytes true on_disk before (more, is, inr still) = same_kept seen may_leave old new on_disk still.1 before
   pulled old new bytes false on_disk before pulls = same_kept seen may_leave old new on_disk pulls before
 
   -- whether a call has failed is as before

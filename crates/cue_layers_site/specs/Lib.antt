@@ -1,9 +1,12 @@
 pub mod Answering
+pub mod Conditions
 pub mod Entries
 pub mod Inner
 pub mod Promise
+pub mod Refusals
 pub mod Requests
 pub mod Sites
 pub mod Starts
 pub mod Statuses
 pub mod Stores
+pub mod Views

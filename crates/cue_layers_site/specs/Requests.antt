@@ -1,14 +1,21 @@
 -- What a request asks of the layers.
-use Rattle.std.specs.Prelude.{◌≡◌, ◌++◌, ℕ, List, codes}
+use Rattle.std.specs.Prelude.{◌≡◌, ◌++◌, ℕ, List, Some, codes}
 use Rattle.cue_policies.specs.declared.kind.LayerKind.{LayerKind}
 use Rattle.cue_policies.specs.declared.kind.LayerKind.TheVariants as kinds
 use Rattle.cue_replica.specs.declared.question.SiteQuestion.TheVariants as questions
 use Rattle.http.specs.declared.request.Request.{Request}
 use Rattle.http.specs.Request.{head_of}
+use Rattle.http_header.specs.FieldValue.{FieldValue}
+use Rattle.http_header.specs.HeaderMap.{get}
 use Rattle.percent_encoding.specs.Percent.{percent_decode}
 use Rattle.cue_service.specs.Requests.{path_of, IsReadRequest, AsksForPath, HandsToPath}
 use Rattle.cue_layers_site.specs.declared.route.LayersRoute.{LayersRoute}
 use Rattle.cue_layers_site.specs.declared.route.LayersRoute.TheVariants.{Put, Remove, Names, Show, View, Sync, Join}
+
+-- the first field of this name has this value
+abbrev pub HasFieldValue : List ℕ → List ℕ → Request (List ℕ) → Type 0
+HasFieldValue name value request =
+    (field : FieldValue) × (get (head_of request).headers name ≡ Some field) × (field.bytes ≡ value)
 
 -- what stands in front of a name in a path
 abbrev pub name_prefix : LayerKind → List ℕ

@@ -3,99 +3,20 @@ ghost use Rattle.std.specs.Prelude.{◌≡◌, ◌≢◌, [], ◌∷◌, codes, 
 ghost use Rattle.http_server.specs.Response.{IsBlank, IsResponse};
 ghost use Rattle.cue_layers.specs.Extracts.{IsExtract};
 ghost use Rattle.cue_layers.specs.Layers.{key};
-ghost use Rattle.cue_service.specs.Statuses.{HasHead, plain_text, status_of_refusal, type_field};
-ghost use Rattle.cue_layers_site.specs.Statuses.{layer_tag, status_of_reason};
+ghost use Rattle.cue_layers_site.specs.Statuses.{layer_tag};
 ghost use Rattle.cue_layers_site.specs.Inner.Changes.{IsDoneAnswer};
 
-use crate::store::{MapChange, StoreRefusal};
+use crate::store::MapChange;
 use bytes::Bytes;
-use cue_lattice::Kind;
-use cue_layers::{Layer, LayerKind, LayersRefusal, Memory};
+use cue_layers::{Layer, LayerKind, Memory};
 use cue_service::{answer_body, answer_tagged};
 use http::{HeaderValue, StatusCode, header};
 use http_server::Response;
 use sha2::{Digest, Sha256};
 use std::alloc::{AllocError, Global};
 
-/// The status of a refusal.
-fn refusal_status(why: LayersRefusal) -> StatusCode
-    ensures { result ≡ status_of_reason why }
-{
-    match why {
-        LayersRefusal::Store(why) => kind_status(why.kind),
-        LayersRefusal::InPiece { index: _, why } => kind_status(why.kind),
-        LayersRefusal::BadName(_) => StatusCode::BAD_REQUEST,
-        LayersRefusal::RevisionsUsed => StatusCode::CONFLICT,
-        LayersRefusal::ViewTooLarge => StatusCode::PAYLOAD_TOO_LARGE,
-        LayersRefusal::NotLayers | LayersRefusal::NotWellFormed => StatusCode::UNPROCESSABLE_ENTITY,
-    }
-}
-
-/// The status of a fault of a text or of state bytes.
-fn kind_status(kind: Kind) -> StatusCode
-    ensures { result ≡ status_of_refusal kind }
-{
-    match kind {
-        Kind::TooLong => StatusCode::PAYLOAD_TOO_LARGE,
-        Kind::Memory => StatusCode::INSUFFICIENT_STORAGE,
-        _ => StatusCode::UNPROCESSABLE_ENTITY,
-    }
-}
-
-/// Answers why a map or a put is refused, by a line.
-pub(crate) fn answer_why(
-    alloc: Global,
-    why: LayersRefusal,
-    response: &mut Response,
-) -> Result<(), Memory>
-    requires { IsBlank response.old }
-    ensures { OnOk result (HasHead (status_of_reason why) (type_field plain_text ∷ []) response.new) }
-{
-    let line = format!(in alloc; "{why}\n")?;
-    let body = Bytes::from_string(line)?;
-    answer_body(
-        response,
-        refusal_status(why),
-        "text/plain; charset=utf-8",
-        body,
-    )
-}
-
-/// Answers why a change is refused, by a line.
-pub(crate) fn answer_store_refusal(
-    alloc: Global,
-    why: StoreRefusal,
-    response: &mut Response,
-) -> Result<(), Memory>
-    requires { IsBlank response.old }
-    ensures { OnOk result (response.new.status ≢ 204) }
-{
-    match why {
-        StoreRefusal::Layers(why) => answer_why(alloc, why, response),
-        StoreRefusal::TooLong => {
-            let body = Bytes::from_static(b"too long: an entry has less than 4 GiB\n");
-            answer_body(
-                response,
-                StatusCode::PAYLOAD_TOO_LARGE,
-                "text/plain; charset=utf-8",
-                body,
-            )
-        }
-        StoreRefusal::NoRoom(error) => {
-            let line = format!(in alloc; "no room: {error}\n")?;
-            let body = Bytes::from_string(line)?;
-            answer_body(
-                response,
-                StatusCode::INSUFFICIENT_STORAGE,
-                "text/plain; charset=utf-8",
-                body,
-            )
-        }
-    }
-}
-
 /// The tag of what an owner says: the revision, and the digest of the state bytes.
-fn tag_of(alloc: Global, layer: &Layer) -> Result<HeaderValue, Memory>
+pub(crate) fn layer_tag_of(alloc: Global, layer: &Layer) -> Result<HeaderValue, Memory>
     ensures { IfOk result (λ tag. tag.bytes ≡ layer_tag layer.now) }
 {
     let state = layer.content.state(alloc)?;
@@ -131,7 +52,7 @@ pub(crate) fn answer_change(
     let Some(layer) = change.more.get(kind, name) else {
         return Err(Memory::from(AllocError));
     };
-    let tag = tag_of(alloc, layer)?;
+    let tag = layer_tag_of(alloc, layer)?;
     answer_done(response, tag)
 }
 
@@ -145,7 +66,7 @@ pub(crate) fn answer_text(
     ensures { OnOk result (response.new.status ≢ 204) }
 {
     let text = layer.content.print(alloc)?;
-    let tag = tag_of(alloc, layer)?;
+    let tag = layer_tag_of(alloc, layer)?;
     let kind = HeaderValue::from_static("text/plain; charset=utf-8");
     let body = Bytes::from_string(text)?;
     answer_tagged(response, StatusCode::OK, tag, kind, body)

@@ -102,6 +102,9 @@ impl<S: Gathers + ServesCommons, D: Disk> Gathers for LayeredSite<S, D> {
     ghost pulls_pieces = { λ old bytes taken new.
         (new.store ≡ old.store) × S.Gathers.pulls_pieces old.inner bytes taken new.inner };
 
+    ghost pulls_layers = { λ old bytes taken new.
+        (new.inner ≡ old.inner) × PullsLayers D.Disk.seen D.Disk.may_leave old.store bytes taken new.store };
+
     ghost rests = { λ old new. IsStoreStill old.store new.store × ((new.inner ≡ old.inner) ⊎ S.Gathers.rests old.inner new.inner) };
 
     fn pull_state(&mut self, bytes: &[u8]) -> bool {
@@ -110,6 +113,14 @@ impl<S: Gathers + ServesCommons, D: Disk> Gathers for LayeredSite<S, D> {
 
     fn pull_pieces(&mut self, bytes: &[u8]) -> bool {
         self.inner.pull_pieces(bytes)
+    }
+
+    fn has_layers(&self) -> bool {
+        true
+    }
+
+    fn pull_layers(&mut self, bytes: &[u8]) -> bool {
+        self.store.pull(bytes)
     }
 
     fn patience(&self, request: &Request<Bytes>, response: &Response) -> Option<u64> {

@@ -8,9 +8,10 @@ ghost use Rattle.cue_layers.specs.Join.{IsOnePut};
 ghost use Rattle.cue_layers.specs.Layers.{key};
 ghost use Rattle.cue_layers.specs.Refusals.{piece_of_refusal};
 ghost use Rattle.cue_layers_site.specs.Entries.{StandForMap};
-ghost use Rattle.cue_layers_site.specs.Inner.Changes.{IsChangeOf};
+ghost use Rattle.cue_layers_site.specs.Inner.Changes.{IsChangeOf, IsNameReason};
 
 use crate::entries::LAYERS;
+use crate::refusal::ChangeRefusal;
 use cue_journal::{Batch, BlockError, JournalPair, Room};
 use cue_layers::{LayerKind, Layers, LayersRefusal, Memory, Piece};
 use cue_service::Snapshots;
@@ -36,37 +37,6 @@ pub struct LayersStore<D: Disk> {
     fault: Option<io::Error>,
 }
 
-/// Why a change of the map was refused.
-#[derive(Clone, Copy, Debug)]
-pub enum StoreRefusal {
-    Layers(LayersRefusal),
-    /// The layers bytes have 4 GiB or more.
-    TooLong,
-    /// The disk has no room.
-    NoRoom(io::Error),
-}
-
-impl From<LayersRefusal> for StoreRefusal {
-    ghost use Rattle.cue_layers_site.specs.declared.store.StoreRefusal.TheVariants.{Layers};
-
-    ghost from_gives = { λ why refusal. refusal ≡ Layers why };
-
-    fn from(why: LayersRefusal) -> StoreRefusal {
-        StoreRefusal::Layers(why)
-    }
-}
-
-impl From<Memory> for StoreRefusal {
-    ghost use Rattle.cue_layers.specs.Refusals.{out_of_memory};
-    ghost use Rattle.cue_layers_site.specs.declared.store.StoreRefusal.TheVariants.{Layers};
-
-    ghost from_gives = { λ _ refusal. refusal ≡ Layers out_of_memory };
-
-    fn from(memory: Memory) -> StoreRefusal {
-        StoreRefusal::Layers(LayersRefusal::from(memory))
-    }
-}
-
 /// A change of a map: the map that it leaves, and what was joined for it.
 #[derive(Drop)]
 pub(crate) struct MapChange {
@@ -75,16 +45,17 @@ pub(crate) struct MapChange {
 }
 
 /// Has an entry of layers bytes wait for the disk.
-fn queue(batch: &mut Batch, bytes: &[u8]) -> Result<(), StoreRefusal>
+fn queue(batch: &mut Batch, bytes: &[u8]) -> Result<(), ChangeRefusal>
     ensures ok { OnOk result (IsBatch (batch_bytes batch.old) → IsBatch (batch_bytes batch.new)
         × (recovered_pieces (batch_bytes batch.new)
         ≡ recovered_pieces (batch_bytes batch.old) ++ (2 ∷ bytes.now) ∷ [])) }
+    ensures refused { IfErr result IsNameReason }
     ensures err { OnErr result (batch_bytes batch.new ≡ batch_bytes batch.old) }
 {
     match batch.push(LAYERS, bytes) {
         Ok(()) => Ok(()),
-        Err(BlockError::TooLong) => Err(StoreRefusal::TooLong),
-        Err(BlockError::OutOfMemory(error)) => Err(StoreRefusal::from(Memory::from(error))),
+        Err(BlockError::TooLong) => Err(ChangeRefusal::TooLong),
+        Err(BlockError::OutOfMemory(error)) => Err(ChangeRefusal::from(Memory::from(error))),
     }
 }
 
@@ -183,7 +154,7 @@ impl<D: Disk> LayersStore<D> {
         next.put(kind, name, pieces)?;
         match next.extract(self.alloc, kind, name)? {
             Some(more) => Ok(MapChange { next, more }),
-            None => Err(LayersRefusal::NotLayers),
+            None => Err(LayersRefusal::from(Memory::from(AllocError))),
         }
     }
 
@@ -206,16 +177,17 @@ impl<D: Disk> LayersStore<D> {
     /// # Errors
     ///
     /// `TooLong`, `NoRoom`, and want of memory. The map is as it was.
-    pub(crate) fn apply(&mut self, change: MapChange) -> Result<(), StoreRefusal>
+    pub(crate) fn apply(&mut self, change: MapChange) -> Result<(), ChangeRefusal>
         requires { IsChangeOf self.old.map change }
         ensures map { OnOk result (self.new.map ≡ change.next) }
         ensures ok { OnOk result (IsAdded D.Disk.seen D.Disk.may_leave change.more self.old self.new) }
+        ensures refused { IfErr result IsNameReason }
         ensures err { OnErr result (IsStoreSame D.Disk.seen D.Disk.may_leave self.old self.new) }
     {
         let MapChange { next, more } = change;
         let bytes = more.write(self.alloc)?;
         if let Some(error) = self.make_room(bytes.len()) {
-            return Err(StoreRefusal::NoRoom(error));
+            return Err(ChangeRefusal::NoRoom(error));
         }
         queue(&mut self.batch, &bytes)?;
         self.map = next;

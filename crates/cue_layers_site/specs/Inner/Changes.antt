@@ -7,6 +7,8 @@ use Rattle.cue_layers.specs.declared.layer.Layer.{Layer}
 use Rattle.cue_layers.specs.Layers.{IsMap, key, key_of}
 use Rattle.cue_layers.specs.Maps.{IsJoin}
 use Rattle.cue_layers.specs.Puts.{HasElement}
+use Rattle.cue_layers_site.specs.declared.refusal.ChangeRefusal.{ChangeRefusal}
+use Rattle.cue_layers_site.specs.declared.refusal.ChangeRefusal.TheVariants.{Unknown, Barred, Absent, Unmet}
 use Rattle.cue_layers_site.specs.declared.store.LayersStore.{LayersStore}
 use Rattle.cue_layers_site.specs.declared.store.MapChange.{MapChange}
 use Rattle.cue_layers_site.specs.Statuses.{layer_tag_field}
@@ -16,6 +18,14 @@ use Rattle.cue_layers_site.specs.Stores.{IsAdded}
 pub record IsChangeOf (map : List Layer) (change : MapChange) : Type 0 where
   pub is_map : IsMap change.more
   pub joined : IsJoin map change.more change.next
+
+-- It says neither who may write, nor what a map has: it is of what was sent, of the disk or of memory.
+abbrev pub IsNameReason : ChangeRefusal → Type 0
+IsNameReason Unknown = ⊥
+IsNameReason Barred = ⊥
+IsNameReason Absent = ⊥
+IsNameReason Unmet = ⊥
+IsNameReason why = Unit {0}
 
 -- the answer says that a change is done, with the tag of the layer of a key
 abbrev pub IsDoneAnswer : LayerKind → List ℕ → List Layer → Response → Type 0
