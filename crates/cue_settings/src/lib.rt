@@ -6,6 +6,6 @@ mod rules;
 mod stop;
 mod words;
 
-pub use rules::may_listen;
+pub use rules::{answer_limit, may_listen};
 pub use stop::SettingsError;
 pub use words::{Settings, Task, command, task_of, words_of};

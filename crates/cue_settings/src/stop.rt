@@ -1,8 +1,10 @@
 ghost use Rattle.std.specs.Prelude.{◌≡◌, ◌≢◌, ◌⊎◌};
 ghost use Rattle.cue_lattice.specs.declared.refusal.Kind.TheVariants as kinds;
-ghost use Rattle.cue_settings.specs.Stops.{IsDamage, IsDamaged, IsSystem};
+ghost use Rattle.cue_owners.specs.declared.read.TokenFileError.TheVariants as faults;
+ghost use Rattle.cue_settings.specs.Stops.{IsDamage, IsDamaged, IsPeer, IsSystem, IsTokenFault};
 
 use cue_lattice::{Kind, Refusal};
+use cue_owners::TokenFileError;
 use std::alloc::Global;
 use std::io;
 use thiserror::Error;
@@ -33,10 +35,16 @@ pub enum SettingsError {
     Journal(u8, &'static str, u64),
     #[error("no address: --listen takes ADDRESS:PORT")]
     Listen,
-    #[error("no address of a peer: --peer takes http://HOST:PORT")]
-    Peer,
-    #[error("{0}: the file of the token is empty")]
-    Token(String),
+    #[error("{0}: no URL of a peer: --peer takes http://NAME[:PORT]/[PATH/]")]
+    Peer(String),
+    /// A token file has no token, or a line of another form.
+    #[error("{file}: {why}")]
+    Tokens {
+        file: String,
+        why: TokenFileError,
+    },
+    #[error("{0}: is not one token of visible ASCII characters")]
+    PeerToken(String),
     #[error("without --token-file it listens on loopback addresses alone, since anybody could write")]
     OpenToAll,
 }
@@ -53,12 +61,36 @@ impl SettingsError {
         }
     }
 
+    /// A URL that is none of a peer.
+    pub fn peer(alloc: Global, url: &str) -> SettingsError
+        ensures { (result ≡ SettingsError.OutOfMemory) ⊎ IsPeer url.now result }
+    {
+        match String::from_str(alloc, url) {
+            Ok(url) => SettingsError::Peer(url),
+            Err(_) => SettingsError::OutOfMemory,
+        }
+    }
+
     /// A file that is damaged at a byte.
     pub fn damaged(alloc: Global, file: &str, at: usize) -> SettingsError
         ensures { (result ≡ SettingsError.OutOfMemory) ⊎ IsDamaged file.now at result }
     {
         match String::from_str(alloc, file) {
             Ok(file) => SettingsError::Damaged { file, at },
+            Err(_) => SettingsError::OutOfMemory,
+        }
+    }
+
+    /// A token file that is refused.
+    pub fn of_token_file(alloc: Global, file: &str, why: TokenFileError) -> SettingsError
+        ensures memory { why ≡ faults.OutOfMemory → result ≡ SettingsError.OutOfMemory }
+        ensures fault { (result ≡ SettingsError.OutOfMemory) ⊎ IsTokenFault file.now why result }
+    {
+        if why == TokenFileError::OutOfMemory {
+            return SettingsError::OutOfMemory;
+        }
+        match String::from_str(alloc, file) {
+            Ok(file) => SettingsError::Tokens { file, why },
             Err(_) => SettingsError::OutOfMemory,
         }
     }

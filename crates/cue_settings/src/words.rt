@@ -1,6 +1,7 @@
 ghost use Rattle.std.specs.Prelude.{◌≡◌, ◌*◌};
 ghost use Rattle.std.specs.Duration.{as_nanos};
 
+use crate::rules::answer_limit;
 use crate::stop::SettingsError;
 use anyhow::Result;
 use clap::builder::ValueParser;
@@ -8,6 +9,7 @@ use clap::{Arg, ArgAction, ArgMatches, Command, value_parser};
 use cue_doors::Doors;
 use cue_http::{Bounds, PullSource};
 use http_server::Config;
+use http_uri::{Uri, UriError};
 use std::alloc::{AllocError, Global};
 use std::net::{SocketAddr, ToSocketAddrs};
 use std::time::Duration;
@@ -24,7 +26,12 @@ pub struct Settings<'a> {
     pub data: &'a str,
     pub listen: &'a str,
     pub peers: Vec<&'a str>,
+    /// The file of the tokens that may write.
     pub token_file: Option<&'a str>,
+    /// The file of the tokens that may read.
+    pub read_token_file: Option<&'a str>,
+    /// The file of the token that the site sends to its peers.
+    pub peer_token_file: Option<&'a str>,
     /// Host names of the site, beside its addresses and those of loopback.
     pub hosts: Vec<&'a str>,
     /// A peer is asked each so many seconds.
@@ -35,6 +42,8 @@ pub struct Settings<'a> {
     pub waiting: u64,
     /// A request is whole, and an answer taken, in so many seconds.
     pub idle: u64,
+    /// No answer about the table has more bytes.
+    pub most_answer: usize,
 }
 
 fn value<'a>(alloc: Global, name: &'a str, shown: &'a str, help: &'a str) -> Arg<'a> {
@@ -62,7 +71,7 @@ pub fn command<'a>(alloc: Global) -> Result<Command<'a>, AllocError> {
             alloc,
             "peer",
             "URL",
-            "A site whose state is taken, http://HOST:PORT; again for more",
+            "A site that is asked for what it accepted, http://NAME[:PORT]/[PATH/]; again for more",
         )
         .action(ArgAction::Append))?
         .arg(
@@ -70,12 +79,6 @@ pub fn command<'a>(alloc: Global) -> Result<Command<'a>, AllocError> {
                 .value_parser(value_parser!(u64).range(1..86_400))
                 .default_value("2"),
         )?
-        .arg(value(
-            alloc,
-            "token-file",
-            "FILE",
-            "The word that each POST has to bear",
-        ))?
         .arg(value(
             alloc,
             "host",
@@ -108,7 +111,18 @@ pub fn command<'a>(alloc: Global) -> Result<Command<'a>, AllocError> {
             .value_parser(value_parser!(u64).range(1..86_400))
             .default_value("60"),
         )?;
-    with_care(alloc, command)
+    with_care(alloc, with_limit(alloc, with_tokens(alloc, command)?)?)
+}
+
+/// The option for the limit of answers.
+fn with_limit<'a>(alloc: Global, command: Command<'a>) -> Result<Command<'a>, AllocError> {
+    command.arg(value(
+        alloc,
+        "max-answer",
+        "BYTES",
+        "The most bytes of an answer about the table (67108864)",
+    )
+    .value_parser(value_parser!(u64).range(1024..4_294_967_296)))
 }
 
 /// What the program is asked to do.
@@ -132,6 +146,29 @@ pub fn task_of<'a>(matches: &ArgMatches<'a>) -> Task<'a> {
         (None, Some(folder), Some(new)) => Task::Salvage(folder, new),
         (None, _, _) => Task::Serve,
     }
+}
+
+/// The options for tokens.
+fn with_tokens<'a>(alloc: Global, command: Command<'a>) -> Result<Command<'a>, AllocError> {
+    command
+        .arg(value(
+            alloc,
+            "token-file",
+            "FILE",
+            "The tokens that may write: one, or lines OWNER TOKEN PATTERN..",
+        ))?
+        .arg(value(
+            alloc,
+            "read-token-file",
+            "FILE",
+            "The tokens that may only read, in the same form; without it anybody may read",
+        ))?
+        .arg(value(
+            alloc,
+            "peer-token-file",
+            "FILE",
+            "The one token that this site sends to its peers",
+        ))
 }
 
 /// The options for damaged files.
@@ -187,11 +224,14 @@ pub fn words_of<'a>(alloc: Global, matches: &ArgMatches<'a>) -> Result<Settings<
         listen: matches.get_str("listen").unwrap_or("127.0.0.1:8420"),
         peers: all_of(alloc, matches, "peer")?,
         token_file: matches.get_str("token-file"),
+        read_token_file: matches.get_str("read-token-file"),
+        peer_token_file: matches.get_str("peer-token-file"),
         hosts: all_of(alloc, matches, "host")?,
         every: matches.get_one::<u64>("every").unwrap_or(2),
         most: matches.get_one::<u64>("max-connections").unwrap_or(1000),
         waiting: matches.get_one::<u64>("max-waiting").unwrap_or(500),
         idle: matches.get_one::<u64>("idle").unwrap_or(60),
+        most_answer: answer_limit(matches.get_one::<u64>("max-answer")),
     })
 }
 
@@ -200,6 +240,48 @@ fn looked_up(rt: &HostRuntime, name: &str) -> Result<Option<SocketAddr>> {
     match name.to_socket_addrs(rt) {
         Ok(mut addresses) => Ok(addresses.next()),
         Err(error) => Err(SettingsError::system(rt.alloc(), "look up", name, error).into()),
+    }
+}
+
+/// The peer that a URL names, as `http://NAME[:PORT]/[PATH/]`, which is asked with a token, if there is
+/// one.
+fn source_of(rt: &HostRuntime, url: &str, token: &Option<String>) -> Result<PullSource> {
+    let alloc = rt.alloc();
+    let uri = match Uri::from_str(alloc, url) {
+        Ok(uri) => uri,
+        Err(UriError::OutOfMemory) => return Err(SettingsError::OutOfMemory.into()),
+        Err(UriError::Invalid(_)) => return Err(SettingsError::peer(alloc, url).into()),
+    };
+    let Some(host) = host_of(alloc, &uri)? else {
+        return Err(SettingsError::peer(alloc, url).into());
+    };
+    let at = looked_up(rt, &host).unwrap_or(None);
+    let prefix = String::from_str(alloc, uri.path().trim_end_matches('/'))?;
+    let token = match token {
+        Some(token) => Some(token.clone()?),
+        None => None,
+    };
+    Ok(PullSource {
+        host,
+        at,
+        prefix,
+        token,
+    })
+}
+
+/// The name and the port of a URL of a peer, where it is one. The port is 80 where none is named.
+fn host_of(alloc: Global, uri: &Uri) -> Result<Option<String>, AllocError> {
+    let (Some("http"), None, Some(host)) = (uri.scheme_str(), uri.query(), uri.host()) else {
+        return Ok(None);
+    };
+    let Some(authority) = uri.authority() else {
+        return Ok(None);
+    };
+    let rest = authority.as_str().strip_prefix(host);
+    match (rest, uri.port_u16()) {
+        (Some(""), _) => Ok(Some(format!(in alloc; "{host}:80")?)),
+        (Some(_), Some(port)) => Ok(Some(format!(in alloc; "{host}:{port}")?)),
+        _ => Ok(None),
     }
 }
 
@@ -236,18 +318,16 @@ impl<'a> Settings<'a> {
         })
     }
 
-    /// The addresses of the peers.
-    pub fn sources(&self, rt: &HostRuntime) -> Result<Vec<PullSource>> {
+    /// The peers. One whose name has no address is a peer all the same: it is looked up again as it is
+    /// asked.
+    ///
+    /// # Errors
+    ///
+    /// The first that is no such URL, or out of memory.
+    pub fn sources(&self, rt: &HostRuntime, token: &Option<String>) -> Result<Vec<PullSource>> {
         let mut sources = Vec::new(rt.alloc());
         for peer in &self.peers {
-            let Some(host) = peer.strip_prefix("http://") else {
-                return Err(SettingsError::Peer.into());
-            };
-            let host = host.strip_suffix("/").unwrap_or(host);
-            match looked_up(rt, host)? {
-                Some(at) => sources.push(PullSource { at })?,
-                None => return Err(SettingsError::Peer.into()),
-            }
+            sources.push(source_of(rt, peer, token)?)?;
         }
         Ok(sources)
     }

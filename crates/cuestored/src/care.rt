@@ -1,16 +1,28 @@
-use crate::files::{File, bytes_of, make_private, on_file, open_files, recover_from, sync_above};
+use crate::files::{File, bytes_of, on_file, open_files, recover_from, sync_above};
+use crate::opening::{COMMONS, JournalNames, LAYERS, open_journal};
 use anyhow::Result;
 use cue_journal::{Batch, Inspection, Journal, JournalPair, inspect};
 use cue_settings::SettingsError;
 use sqlite_disk::{Disk, Files, Memory};
-use std::alloc::Global;
 use std::fs;
 
-/// What the two files of a folder have, where they are there.
+/// What the two files of a journal have, where they are there.
 #[derive(Drop)]
 struct Found {
     journal: Option<Inspection>,
     beside: Option<Inspection>,
+}
+
+impl Found {
+    /// Whether both files are there and sound.
+    fn is_sound(&self) -> bool {
+        is_sound(&self.journal) && is_sound(&self.beside)
+    }
+
+    /// Whether neither file is there.
+    fn is_missing(&self) -> bool {
+        self.journal.is_none() && self.beside.is_none()
+    }
 }
 
 /// Whether a file is there and sound.
@@ -54,38 +66,37 @@ fn look_at_copy(rt: &HostRuntime, path: &str) -> Result<Option<Inspection>> {
     Ok(Some(look(rt, path, &mut copy)?))
 }
 
-/// Looks at both files of a folder. No other process has them open meanwhile. None is made.
-fn look_into(rt: &HostRuntime, folder: &str) -> Result<Found> {
-    let alloc = rt.alloc();
-    let path = format!(in alloc; "{folder}/journal")?;
-    let beside = format!(in alloc; "{folder}/journal-wal")?;
-    let are_there = on_file(alloc, "stat", path.as_str(), fs::exists(rt, path.as_str()))?
-        && on_file(
-            alloc,
-            "stat",
-            beside.as_str(),
-            fs::exists(rt, beside.as_str()),
-        )?;
-    if !are_there {
+/// Looks at both files of a journal. No other process has them open meanwhile. None is made.
+fn look_into(rt: &HostRuntime, folder: &str, name: &str) -> Result<Found> {
+    let names = JournalNames::new(rt.alloc(), folder, name)?;
+    let (path, beside) = (names.path.as_str(), names.beside.as_str());
+    if !is_there(rt, path)? || !is_there(rt, beside)? {
         return Ok(Found {
-            journal: look_at_copy(rt, path.as_str())?,
-            beside: look_at_copy(rt, beside.as_str())?,
+            journal: look_at_copy(rt, path)?,
+            beside: look_at_copy(rt, beside)?,
         });
     }
     let Files {
         log: mut one,
         db: mut other,
-    } = open_files(rt, path.as_str())?;
+    } = open_files(rt, path)?;
     Ok(Found {
-        journal: Some(look(rt, path.as_str(), &mut other)?),
-        beside: Some(look(rt, beside.as_str(), &mut one)?),
+        journal: Some(look(rt, path, &mut other)?),
+        beside: Some(look(rt, beside, &mut one)?),
     })
 }
 
-/// Says whether the files of a folder are sound, and writes nothing.
+/// Whether something has this name.
+fn is_there(rt: &HostRuntime, path: &str) -> Result<bool> {
+    on_file(rt.alloc(), "stat", path, fs::exists(rt, path))
+}
+
+/// Says whether the files of a folder are sound, and writes nothing. A folder of a build without
+/// layers has no files of them.
 pub fn check(rt: &HostRuntime, folder: &str) -> Result<bool> {
-    let found = look_into(rt, folder)?;
-    Ok(is_sound(&found.journal) && is_sound(&found.beside))
+    let commons = look_into(rt, folder, COMMONS)?;
+    let layers = look_into(rt, folder, LAYERS)?;
+    Ok(commons.is_sound() && (layers.is_sound() || layers.is_missing()))
 }
 
 /// Adds entries to a batch.
@@ -112,37 +123,40 @@ fn add_found(batch: &mut Batch, found: &Option<Inspection>) -> Result<usize, Set
     }
 }
 
-/// Two new journals in a folder.
-fn new_journals(alloc: Global, rt: &HostRuntime, folder: &str) -> Result<JournalPair<File>> {
-    let path = format!(in alloc; "{folder}/journal")?;
-    let beside = format!(in alloc; "{folder}/journal-wal")?;
-    make_private(rt, path.as_str())?;
-    make_private(rt, beside.as_str())?;
+/// Two new files of a journal in a folder.
+fn new_journals(rt: &HostRuntime, folder: &str, name: &str) -> Result<JournalPair<File>> {
+    let alloc = rt.alloc();
+    let names = JournalNames::new(alloc, folder, name)?;
     let Files {
         log: one,
         db: other,
-    } = open_files(rt, path.as_str())?;
-    let one = recover_from(alloc, beside.as_str(), one)?;
-    let other = recover_from(alloc, path.as_str(), other)?;
+    } = open_journal(rt, &names)?;
+    let one = recover_from(alloc, names.beside.as_str(), one)?;
+    let other = recover_from(alloc, names.path.as_str(), other)?;
     Ok(JournalPair::new(
         Journal::new(other.disk, other.end),
         Journal::new(one.disk, one.end),
     ))
 }
 
+/// Puts all entries that were found of a journal into a new one. Answers how many.
+fn salvage_journal(rt: &HostRuntime, found: &Found, new: &str, name: &str) -> Result<usize> {
+    let mut batch = Batch::new(rt.alloc());
+    let first = add_found(&mut batch, &found.journal)?;
+    let second = add_found(&mut batch, &found.beside)?;
+    let mut journals = new_journals(rt, new, name)?;
+    on_file(rt.alloc(), "write", new, journals.commit(&mut batch))?;
+    Ok(first.saturating_add(second))
+}
+
 /// Puts all entries that can be read of the files of a folder into a new one. Answers true.
 pub fn salvage(rt: &HostRuntime, folder: &str, new: &str) -> Result<bool> {
-    let alloc = rt.alloc();
-    let found = look_into(rt, folder)?;
-    let mut batch = Batch::new(alloc);
-    let pieces = add_found(&mut batch, &found.journal)?.saturating_add(add_found(
-        &mut batch,
-        &found.beside,
-    )?);
-    on_file(alloc, "mkdir", new, fs::create_dir(rt, new))?;
+    let commons = look_into(rt, folder, COMMONS)?;
+    let layers = look_into(rt, folder, LAYERS)?;
+    on_file(rt.alloc(), "mkdir", new, fs::create_dir(rt, new))?;
     sync_above(rt, new)?;
-    let mut journals = new_journals(alloc, rt, new)?;
-    on_file(alloc, "write", new, journals.commit(&mut batch))?;
-    println!(rt; "{new}: {pieces} pieces written")?;
+    let pieces = salvage_journal(rt, &commons, new, COMMONS)?;
+    let changes = salvage_journal(rt, &layers, new, LAYERS)?;
+    println!(rt; "{new}: {pieces} pieces and {changes} changes of layers written")?;
     Ok(true)
 }

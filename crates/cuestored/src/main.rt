@@ -4,14 +4,17 @@
 
 mod care;
 mod files;
+mod opening;
+mod tokens;
 
 use crate::care::{check, salvage};
-use crate::files::{open_site, token_in};
+use crate::opening::open_site;
+use crate::tokens::{keys_of, peer_token};
 use anyhow::Result;
 use clap::error::Error;
-use cue_doors::Guarded;
+use cue_doors::{Guarded, Keys};
 use cue_http::{LoopError, serve};
-use cue_service::{AccessToken, Shown};
+use cue_service::Shown;
 use cue_settings::{Settings, SettingsError, Task, command, may_listen, task_of, words_of};
 use log::sink::Console;
 use log::{Level, Log, Logged, error, info};
@@ -24,14 +27,11 @@ use std::process::ExitCode;
 fn run(rt: &HostRuntime, words: &Settings) -> Result<bool> {
     let log = Logged::new(rt, Level::Info, Console(rt));
     let listen = words.listen(rt)?;
-    let token = match words.token_file {
-        Some(path) => Some(token_in(rt, path)?),
-        None => None,
-    };
-    if !may_listen(token.is_some(), listen.ip().is_loopback()) {
+    let keys = keys_of(rt, words)?;
+    if !may_listen(keys.writers.is_some(), listen.ip().is_loopback()) {
         return Err(SettingsError::OpenToAll.into());
     }
-    serve_at(rt, &log, words, listen, token)
+    serve_at(rt, &log, words, listen, keys)
 }
 
 /// Opens the site, and serves at an address until a round fails to settle.
@@ -40,10 +40,11 @@ fn serve_at<L: Log>(
     log: &L,
     words: &Settings,
     listen: SocketAddr,
-    token: Option<AccessToken>,
+    keys: Keys,
 ) -> Result<bool> {
-    let sources = words.sources(rt)?;
-    let site = open_site(rt, log, words, token)?;
+    let token = peer_token(rt, words)?;
+    let sources = words.sources(rt, &token)?;
+    let site = open_site(rt, log, words)?;
     let doors = words.doors(rt.alloc(), listen)?;
     let listener = match TcpListener::bind(rt, listen) {
         Ok(listener) => listener,
@@ -56,7 +57,7 @@ fn serve_at<L: Log>(
     };
     let address = listener.local_addr()?;
     info!(log; "listening on http://{address}");
-    let guarded = Guarded::new(doors, site);
+    let guarded = Guarded::new(rt.alloc(), doors, keys, site);
     match serve(
         rt,
         log,
@@ -77,7 +78,7 @@ fn stop_of(rt: &HostRuntime, words: &Settings, ended: LoopError) -> Result<Setti
     Ok(match ended {
         LoopError::Unsettled(error) => {
             let data = words.data;
-            let files = format!(in alloc; "{data}/journal or journal-wal")?;
+            let files = format!(in alloc; "{data}/journal, layers or the file beside it")?;
             SettingsError::system(alloc, "write", files.as_str(), error)
         }
         LoopError::System(call, error) => SettingsError::system(alloc, call, words.listen, error),
