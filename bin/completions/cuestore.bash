@@ -15,8 +15,8 @@ _cuestore_argument() {
     'help 1 '*) _cuestore_offer "$_cuestore_commands $_cuestore_tools" ;;
     'explain 1 '*) _cuestore_offer "$_cuestore_commands --json" ;;
     'to 1 '*) _cuestore_offer 'yaml toml env properties' ;;
-    'site 1 '*) _cuestore_offer 'submit export report print state follow status ready' ;;
-    'site '*' -'*) _cuestore_offer '--token-file --run --timeout' ;;
+    'site 1 '*) _cuestore_offer 'submit put try remove list show export report print state why follow backup restore status ready' ;;
+    'site '*' -'*) _cuestore_offer '--policy --unless-conflict --if-match --token-file --run --timeout' ;;
     'carry 1 '*) _cuestore_offer 'push pull sync' ;;
     'carry 2 '*) _cuestore_offer 'folder: git: etcd: redis: rediss: blob:' ;;
     'carry '*' -'*) _cuestore_offer '--generation --with --fragments --every --status --most --timeout --quiet' ;;
